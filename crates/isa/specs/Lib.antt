@@ -1,0 +1,9 @@
+pub mod Checks
+pub mod Places
+pub mod Refusals
+pub mod TwosComplement
+pub mod Shapes
+pub mod Instructions
+pub mod Table
+pub mod Codes
+pub mod Laws

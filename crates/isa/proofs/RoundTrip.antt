@@ -1,33 +1,34 @@
 -- Encoding and decoding are inverse.
 use mathlib.Core.Path.{_≡_, refl, sym, ap, subst, _∙_}
-use mathlib.Core.Bool.{Bool, true, false, cond}
+use mathlib.Core.Bool.{Bool, true, false, cond, _&&_}
 use mathlib.Core.List.{List, [], _∷_}
 use Prim.Native.Nat.{ℕ, zero, suc, _<_, _≤_}
 use native.Mathlib.Omega.{arith}
 use lib.Dec.{eqb}
 use mathlib.Core.Logic.{⊎-elim}
-use lib.IntN.{pos, negsuc}
+use lib.IntN.{ℤ, pos, negsuc}
 use lib.ListN.{length, take, getD}
 use Rattle.std.proofs.shelf.Lists.{getD-take}
-use Rattle.std.proofs.shelf.Tests.{cases-eq, ne-eqb}
+use Rattle.std.proofs.shelf.Tests.{cases-eq, ne-eqb, both-ways, and-parts, and-from}
 use Rattle.std.proofs.shelf.Ways.{tells}
 use Rattle.std.specs.Options.{mapped}
+use Rattle.std.specs.declared.option.Option.{Option}
 use Rattle.std.specs.declared.option.Option.the-variants.{Some, None}
 use Rattle.std.specs.declared.result.Result.{Result}
 use Rattle.std.specs.declared.result.Result.the-variants.{Ok, Err}
 use Rattle.isa.specs.declared.refusal.Refusal.{Refusal}
 use Rattle.isa.specs.declared.refusal.Refusal.the-variants.{Code as NoLetter}
 use Rattle.isa.specs.declared.shape.Shape.{Shape}
-use Rattle.isa.specs.declared.shape.Shape.the-variants.{Plain}
+use Rattle.isa.specs.declared.shape.Shape.the-variants.{Plain, Byte, Pair, Word, Target, TargetByte, Signed, Long}
 use Rattle.isa.specs.declared.instruction.Direction.the-variants.{Plus, Minus}
 use Rattle.isa.specs.declared.instruction.Action.the-variants.{Outputs, Divisor, InitialSpeed, SlewSpeed, Rates, Origin, IndexTo, Wait, Report, Index}
 use Rattle.isa.specs.declared.instruction.Instruction.{Instruction}
 use Rattle.isa.specs.declared.instruction.Instruction.the-variants.{Go, Jump, JumpLow, Act}
 use Rattle.isa.specs.declared.table.Entry.{Entry}
 use Rattle.isa.specs.declared.table.Entry.the-variants.{Unknown, OutOfRange, Fits}
-use Rattle.isa.specs.Shapes.{widthOf}
+use Rattle.isa.specs.Shapes.{widthOf, operands, operandsFrom}
 use Rattle.isa.specs.Instructions.{letterOf, targetOf}
-use Rattle.isa.specs.Table.{shapeOf}
+use Rattle.isa.specs.Table.{within, nat, entryAt, entry, shapeIn, shapeOf}
 use Rattle.isa.specs.Codes.{operandBytes, encoded, width, fits, inRange, padded, instructionIn, decodedAs, decoded}
 use Rattle.isa.specs.Laws.{ReadsBack, Stood}
 
@@ -93,11 +94,11 @@ reads-back i r = record {
 }
 
 -- a fact about every number, letter by letter
-pub by-letter : (P : ℕ → Type 0) → P 65 → P 68 → P 71 → P 73 → P 86 → P 74 → P 75 → P 76 → P 79 → P 82 → P 87 → P 90 → P 43 → P 45 → ((l : ℕ) → shapeOf l ≡ None → P l) → (l : ℕ) → P l
+pub by-letter : (P : ℕ → Type 0) → P 65 → P 68 → P 71 → P 73 → P 86 → P 74 → P 75 → P 76 → P 79 → P 82 → P 87 → P 90 → P 43 → P 45 → ((l : ℕ) → ((x y : ℤ) → entryAt l x y ≡ Unknown) → P l) → (l : ℕ) → P l
 by-letter P a d g i v j k l o r w z plus minus other n =
     is 65 a (λ n1. is 68 d (λ n2. is 71 g (λ n3. is 73 i (λ n4. is 86 v (λ n5. is 74 j (λ n6. is 75 k (λ n7. is 76 l (λ n8.
     is 79 o (λ n9. is 82 r (λ n10. is 87 w (λ n11. is 90 z (λ n12. is 43 plus (λ n13. is 45 minus (λ n14.
-    other n (rw (n1, n2, n3, n4, n5, n6, n7, n8, n9, n10, n11, n12, n13, n14))))))))))))))))
+    other n (λ x y. rw (n1, n2, n3, n4, n5, n6, n7, n8, n9, n10, n11, n12, n13, n14))))))))))))))))
   where
     is : (m : ℕ) → P m → (eqb n m ≡ false → P n) → P n
     is m p q = ⊎-elim (λ (e : n ≡ m). subst P (sym e) p) (λ (e : n ≡ m → ⊥). q (ne-eqb n m e)) (cases-eq n m)
@@ -131,7 +132,7 @@ module _ (a b c : ℕ) (ha : a < 256) (hb : b < 256) (hc : c < 256) where
       (λ i e. row-stood _ true Plain _ i (λ t. refl) (λ t. refl) e)
       (λ i. row-stood _ _ _ _ i (λ t. grind arith) (in-row _ _ _))
       (λ i. row-stood _ _ _ _ i (λ t. grind arith) (in-row _ _ _))
-      (λ l n i e. let z : Err NoLetter ≡ Ok i = subst (λ s. decodedAs s l a b c ≡ Ok i) n e in let y : _≡_ {A = ℕ} 0 1 = cc in absurd (omega arith))
+      (λ l n i e. let z : Err NoLetter ≡ Ok i = subst (λ k. decodedAs (shapeIn k) l a b c ≡ Ok i) (n (pos 0) (pos 0)) e in let y : _≡_ {A = ℕ} 0 1 = cc in absurd (omega arith))
 
 pub stood : (l a b c : ℕ) → a < 256 → b < 256 → c < 256 → (i : Instruction ℕ) → decoded (l ∷ a ∷ b ∷ c ∷ []) ≡ Ok i → Stood (l ∷ a ∷ b ∷ c ∷ []) i
 stood l a b c ha hb hc i e = stands a b c ha hb hc l i e
@@ -151,3 +152,53 @@ target-low (Go p) r t e = let h : p ≡ t = cc in grind (arith, tells)
 target-low (Jump p n) r t e = let h : p ≡ t = cc in grind (arith, tells)
 target-low (JumpLow p n) r t e = let h : p ≡ t = cc in grind (arith, tells)
 target-low (Act a) r t e = let z : _≡_ {A = ℕ} 0 1 = cc in absurd (omega arith)
+
+-- a number in a range from 0 up is not negative
+not-negative : (low high : ℕ) (z : ℤ) → within (pos low) z (pos high) ≡ true → pos (nat z) ≡ z
+not-negative low high (pos n) e = refl
+not-negative low high (negsuc n) e = absurd (both-ways false refl e)
+
+row-range : (t : Bool) (s : Shape) (j i : Instruction ℕ) → (t ≡ true → inRange j ≡ true) → instructionIn (cond t (Fits s j) (OutOfRange s)) ≡ Ok i → inRange i ≡ true
+row-range true s j i r e = let h : j ≡ i = cc in subst (λ x. inRange x ≡ true) h (r refl)
+row-range false s j i r e = let z : _≡_ {A = ℕ} 0 1 = cc in absurd (omega arith)
+
+-- the row of one operand that is not negative, and of two
+row-one : (low high : ℕ) (s : Shape) (make : ℕ → Instruction ℕ) (x : ℤ) (i : Instruction ℕ)
+    → ((n : ℕ) → within (pos low) (pos n) (pos high) ≡ true → inRange (make n) ≡ true)
+    → instructionIn (cond (within (pos low) x (pos high)) (Fits s (make (nat x))) (OutOfRange s)) ≡ Ok i → inRange i ≡ true
+row-one low high s make x i r = row-range _ s _ i (λ t. r (nat x) (ap (λ z. within (pos low) z (pos high)) (not-negative low high x t) ∙ t))
+
+row-two : (low high low2 high2 : ℕ) (s : Shape) (make : ℕ → ℕ → Instruction ℕ) (x y : ℤ) (i : Instruction ℕ)
+    → ((m n : ℕ) → (within (pos low) (pos m) (pos high) && within (pos low2) (pos n) (pos high2)) ≡ true → inRange (make m n) ≡ true)
+    → instructionIn (cond (within (pos low) x (pos high) && within (pos low2) y (pos high2)) (Fits s (make (nat x) (nat y))) (OutOfRange s)) ≡ Ok i → inRange i ≡ true
+row-two low high low2 high2 s make x y i r = row-range _ s _ i (λ t.
+    let p = and-parts _ _ t in
+    r (nat x) (nat y) (and-from _ _ (ap (λ z. within (pos low) z (pos high)) (not-negative low high x (p .0)) ∙ p .0) (ap (λ z. within (pos low2) z (pos high2)) (not-negative low2 high2 y (p .1)) ∙ p .1)))
+
+-- what the table gives is in range
+pub entry-in-range : (x y : ℤ) (l : ℕ) (i : Instruction ℕ) → instructionIn (entry l (operands x y)) ≡ Ok i → inRange i ≡ true
+entry-in-range x y =
+    by-letter (λ l. (i : Instruction ℕ) → instructionIn (entry l (operands x y)) ≡ Ok i → inRange i ≡ true)
+    (λ i. row-one 0 63 Byte (λ n. Act (Outputs n)) x i (λ n. in-row _ _ _))
+    (λ i. row-one 1 255 Byte (λ n. Act (Divisor n)) x i (λ n. in-row _ _ _))
+    (λ i. row-one 0 2047 Target Go x i (λ n. in-row _ _ _))
+    (λ i. row-one 19 25000 Word (λ n. Act (InitialSpeed n)) x i (λ n. in-row _ _ _))
+    (λ i. row-one 19 25000 Word (λ n. Act (SlewSpeed n)) x i (λ n. in-row _ _ _))
+    (λ i. row-two 0 2047 0 255 TargetByte Jump x y i (λ m n. in-row _ _ _))
+    (λ i. row-two 1 255 1 255 Pair (λ m n. Act (Rates m n)) x y i (λ m n. in-row _ _ _))
+    (λ i. row-two 0 2047 1 6 TargetByte JumpLow x y i (λ m n. in-row _ _ _))
+    (λ i. row-range _ Signed (Act (Origin x)) i (in-row _ _ _))
+    (λ i. row-range _ Signed (Act (IndexTo x)) i (in-row _ _ _))
+    (λ i. row-one 0 65535 Word (λ n. Act (Wait n)) x i (λ n. in-row _ _ _))
+    (λ i. row-range true Plain (Act Report) i (λ _. refl))
+    (λ i. row-one 0 16777215 Long (λ n. Act (Index Plus n)) x i (λ n. in-row _ _ _))
+    (λ i. row-one 0 16777215 Long (λ n. Act (Index Minus n)) x i (λ n. in-row _ _ _))
+    (λ l n i e. let z : Err NoLetter ≡ Ok i = subst (λ k. instructionIn k ≡ Ok i) (n x y) e in let w : _≡_ {A = ℕ} 0 1 = cc in absurd (omega arith))
+
+-- and what is decoded
+pub decoded-in-range : (bs : List ℕ) (i : Instruction ℕ) → decoded bs ≡ Ok i → inRange i ≡ true
+decoded-in-range bs i = go (shapeOf (getD bs 0 0))
+  where
+    go : (o : Option Shape) → decodedAs o (getD bs 0 0) (getD bs 1 0) (getD bs 2 0) (getD bs 3 0) ≡ Ok i → inRange i ≡ true
+    go None e = let z : _≡_ {A = ℕ} 0 1 = cc in absurd (omega arith)
+    go (Some s) e = entry-in-range (operandsFrom s (getD bs 1 0) (getD bs 2 0) (getD bs 3 0) .first) (operandsFrom s (getD bs 1 0) (getD bs 2 0) (getD bs 3 0) .second) (getD bs 0 0) i e

@@ -1,2 +1,4 @@
-mod Steps
 mod Reading
+mod Steps
+mod Tests
+mod Writing

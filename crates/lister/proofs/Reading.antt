@@ -81,7 +81,7 @@ module _ (im : List ℕ) (p : ℕ) (lt : p < length im) (u : user p ≡ true) (h
         let some : 1 ≤ w = subst (λ k. 1 ≤ k) (sym n) (widths h) in
         let low = user-low (p + (w - 1)) v in
         let b : getD (take w (drop p im)) 0 0 ≡ getD im p 0 = getD-take w (drop p im) 0 0 (omega arith) ∙ getD-drop p im 0 0 ∙ ap (λ k. getD im k 0) (let x : p + 0 ≡ p = omega arith in x) in
-        (read-decoded ∙ ap ranged q, n ∙ same-width (padded (take w (drop p im))) h i (ap shapeOf b ∙ e) s, some, omega arith, target-low i (s .range))
+        (read-decoded ∙ ap ranged q, n ∙ same-width (padded (take w (drop p im))) h i (ap shapeOf b ∙ e) s, some, omega arith, record { range = s .range; low = target-low i (s .range) })
       where
         widths : (h : Shape) → 1 ≤ widthOf h
         widths Plain = omega arith

@@ -11,7 +11,7 @@ use Rattle.std.specs.declared.result.Result.the-variants.{Ok, Err}
 use Rattle.isa.specs.declared.refusal.Refusal.{Refusal}
 use Rattle.isa.specs.declared.instruction.Instruction.{Instruction}
 use Rattle.isa.specs.Instructions.{targetOf}
-use Rattle.isa.specs.Codes.{width}
+use Rattle.isa.specs.Codes.{width, inRange}
 use Rattle.sequence.specs.declared.image.ImageFault.{ImageFault}
 use Rattle.sequence.specs.declared.image.Found.{Found}
 use Rattle.sequence.specs.Images.{Content, code, wrong, markByte, withFound, walk}
@@ -25,13 +25,14 @@ left im c = walk (c .place) (c .inside) 0 (drop (c .place) im)
 abbrev pub cursor : ℕ → mathlib.Core.Bool.Bool → Cursor
 cursor p inside = record { place = p; inside = inside }
 
--- a target is a place
-abbrev pub LowTarget : Instruction ℕ → Type 0
-LowTarget i = (t : ℕ) → targetOf i ≡ Some t → t ≤ 2047
+-- the operands are in range; hence a target is a place
+pub record Sound (i : Instruction ℕ) : Type 0 where
+  pub range : inRange i ≡ true
+  pub low : (t : ℕ) → targetOf i ≡ Some t → t ≤ 2047
 
 -- what a read at place p answers
 abbrev pub Reads : ℕ → Result Read Refusal → Content → Type 0
-Reads p (Ok x) c = (c ≡ code (x .instruction)) × (x .width ≡ width (x .instruction)) × (1 ≤ x .width) × (p + x .width ≤ 2048) × LowTarget (x .instruction)
+Reads p (Ok x) c = (c ≡ code (x .instruction)) × (x .width ≡ width (x .instruction)) × (1 ≤ x .width) × (p + x .width ≤ 2048) × Sound (x .instruction)
 Reads p (Err r) c = c ≡ wrong r
 
 -- the marks in front are passed
@@ -42,5 +43,5 @@ Passed (Err f) im before after = left im before ≡ Err f
 -- one step of the walk
 abbrev pub Gives : Result (Option Found) ImageFault → List ℕ → Cursor → Cursor → Type 0
 Gives (Ok None) im before after = left im before ≡ Ok []
-Gives (Ok (Some f)) im before after = (left im before ≡ withFound f (left im after)) × (before .place < after .place) × (f .place < 2048) × LowTarget (f .instruction)
+Gives (Ok (Some f)) im before after = (left im before ≡ withFound f (left im after)) × (before .place < after .place) × (f .place < 2048) × Sound (f .instruction)
 Gives (Err e) im before after = left im before ≡ Err e

@@ -7,7 +7,7 @@ ghost use lib.ListN.{length, replicate};
 ghost use Rattle.std.specs.Results.{isOk};
 ghost use Rattle.sequence.specs.Images.{walk};
 ghost use Rattle.lister.specs.Targets.{firsts, checkedOne, checked};
-ghost use Rattle.lister.specs.Walks.{LowTarget};
+ghost use Rattle.lister.specs.Walks.{Sound};
 use crate::walk::Cursor;
 use crate::walk::next;
 use isa::Refusal;
@@ -40,7 +40,7 @@ pub fn check(image: &[u8], firsts: &[bool; 2_048]) -> Result<(), ImageFault>
 }
 
 fn check_found(found: Found, firsts: &[bool; 2_048]) -> Result<(), ImageFault>
-    requires { ⌜ LowTarget (found .instruction) ⌝ }
+    requires { ⌜ Sound (found .instruction) ⌝ }
     ensures { λ r. ⌜ r ≡ checkedOne (now (firsts .entry)) found ⌝ }
 {
     match found.instruction.target() {

@@ -54,10 +54,14 @@ abbrev pub withFound : Found → Result (List Found) ImageFault → Result (List
 withFound f (Ok fs) = Ok (f ∷ fs)
 withFound f (Err e) = Err e
 
+-- the first instruction of a stretch opens it
+abbrev pub foundAt : ℕ → Bool → Instruction ℕ → Found
+foundAt p inside i = record { place = p; instruction = i; opens = not inside }
+
 -- a stretch ends with a mark in a user place
 abbrev pub onward : ℕ → Bool → Content → Result (List Found) ImageFault → Result (List Found) ImageFault
 onward p inside mark rest = cond (inside && not (user p)) (Err (imageFault Area p)) rest
-onward p inside (code i) rest = withFound (record { place = p; instruction = i; opens = not inside }) rest
+onward p inside (code i) rest = withFound (foundAt p inside i) rest
 onward p inside (wrong r) rest = Err (imageFault r p)
 
 abbrev pub isCode : Content → Bool

@@ -2,9 +2,9 @@
 use mathlib.Core.Path.{_≡_}
 use mathlib.Core.Bool.{Bool, cond, _&&_}
 use mathlib.Core.List.{List, [], _∷_, _++_}
-use Prim.Native.Nat.{ℕ, zero, suc, _≤_}
+use Prim.Native.Nat.{ℕ, _≤_}
 use lib.Chars.{codes}
-use lib.Dec.{eqb, leb}
+use lib.Dec.{eqb, leb, ltb}
 use lib.ListN.{length}
 use lib.Seq.{sets}
 use Rattle.std.specs.declared.option.Option.{Option}
@@ -31,11 +31,9 @@ space = 32
 abbrev pub lineFeed : ℕ
 lineFeed = 10
 
--- so many operands, each after a space
+-- the first n of two operands, each after a space
 abbrev pub operandText : ℕ → Operands → List ℕ
-operandText zero o = []
-operandText (suc zero) o = space ∷ signed (o .first)
-operandText (suc (suc n)) o = (space ∷ signed (o .first)) ++ (space ∷ signed (o .second))
+operandText n o = cond (ltb n 1) [] ((space ∷ signed (o .first)) ++ cond (ltb n 2) [] (space ∷ signed (o .second)))
 
 abbrev pub count : Option Shape → ℕ
 count None = 0
@@ -83,4 +81,4 @@ written out (Err f) = out
 
 -- a listing never needs more than that output
 abbrev pub Short : List ℕ → Type 0
-Short im = (text : List ℕ) → listing im ≡ Ok text → length text ≤ listingRoom
+Short im = length im ≡ imageSize → (text : List ℕ) → listing im ≡ Ok text → length text ≤ listingRoom

@@ -11,7 +11,7 @@ spell zero n = []
 spell (suc k) n = cond (ltb n 10) ((48 + n) ∷ []) (spell k (n / 10) ++ ((48 + n % 10) ∷ []))
 
 -- a number has at most eight digits
-abbrev pub decimal : ℕ → List ℕ
+unfoldable pub decimal : ℕ → List ℕ
 decimal n = spell 8 n
 
 abbrev pub signed : ℤ → List ℕ

@@ -18,7 +18,8 @@ use Rattle.isa.specs.Codes.{width}
 use Rattle.sequence.specs.declared.image.ImageFault.{ImageFault}
 use Rattle.sequence.specs.declared.image.Found.{Found}
 use Rattle.sequence.specs.Images.{Content, mark, code, wrong, markByte, imageFault, readAt, contentAt, onward, isCode, further, withFound, walk}
-use Rattle.lister.specs.Walks.{left, cursor}
+use Rattle.lister.specs.declared.walk.Cursor.{Cursor}
+use Rattle.lister.specs.Walks.{left, cursor, markChecked}
 
 -- bytes of the instruction before are passed
 walk-past : (k : ℕ) (p : ℕ) (inside : Bool) (s : List ℕ) → k ≤ length s → walk p inside k s ≡ walk (p + k) inside 0 (drop k s)
@@ -50,7 +51,7 @@ module _ (im : List ℕ) (p : ℕ) (inside : Bool) where
     content-read n = ap (contentAt p) there ∙ ap (λ t. cond t mark (readAt p here)) (ne-eqb _ _ n) ∙ ap (readAt p) (sym there)
 
     -- at a mark
-    pub left-mark : getD im p 0 ≡ markByte → left im (cursor p inside) ≡ cond (inside && not (user p)) (Err (imageFault Area p)) (left im (cursor (p + 1) false))
+    left-mark : getD im p 0 ≡ markByte → left im (cursor p inside) ≡ cond (inside && not (user p)) (Err (imageFault Area p)) (left im (cursor (p + 1) false))
     left-mark e = left-content mark (content-mark e) ∙ ap (λ q. cond (inside && not (user p)) (Err (imageFault Area p)) (walk q false 0 (drop (p + 1) im))) (let x : suc p ≡ p + 1 = omega arith in x)
 
     module _ (n : getD im p 0 ≡ markByte → ⊥) where
@@ -66,3 +67,19 @@ module _ (im : List ℕ) (p : ℕ) (inside : Bool) where
       -- at what is no instruction
       pub left-wrong : (r : Refusal) → readAt p (drop p im) ≡ wrong r → left im (cursor p inside) ≡ Err (imageFault r p)
       left-wrong r e = left-content (wrong r) (content-read n ∙ e)
+
+-- a mark that is refused, and one that is passed
+refused-mark : (t : Bool) (x : ImageFault) (y z : Result (List Found) ImageFault) (e : ImageFault) → cond t (Err x) (Ok (tt {0})) ≡ Err e → y ≡ cond t (Err x) z → y ≡ Err e
+refused-mark true x y z e h k = k ∙ ap Err (let g : x ≡ e = cc in g)
+refused-mark false x y z e h k = let w : _≡_ {A = ℕ} 0 1 = cc in absurd (omega arith)
+
+passed-mark : (t : Bool) (x : ImageFault) (y z : Result (List Found) ImageFault) (u : Unit {0}) → cond t (Err x) (Ok (tt {0})) ≡ Ok u → y ≡ cond t (Err x) z → y ≡ z
+passed-mark true x y z u h k = let w : _≡_ {A = ℕ} 0 1 = cc in absurd (omega arith)
+passed-mark false x y z u h k = k
+
+module _ (im : List ℕ) (c : Cursor) (h : c .place < length im) (m : getD im (c .place) 0 ≡ markByte) where
+  pub left-refused : (e : ImageFault) → markChecked c ≡ Err e → left im c ≡ Err e
+  left-refused e k = refused-mark (c .inside && not (user (c .place))) _ _ _ e k (left-mark im (c .place) (c .inside) h m)
+
+  pub left-passed : (u : Unit {0}) → markChecked c ≡ Ok u → left im c ≡ left im (cursor (c .place + 1) false)
+  left-passed u k = passed-mark (c .inside && not (user (c .place))) _ _ _ u k (left-mark im (c .place) (c .inside) h m)

@@ -1,6 +1,6 @@
 -- What the walk of the code has to do with that of the definition.
 use mathlib.Core.Path.{_≡_}
-use mathlib.Core.Bool.{true, false}
+use mathlib.Core.Bool.{Bool, true, false, cond, not, _&&_}
 use mathlib.Core.List.{List, []}
 use Prim.Native.Nat.{ℕ, _+_, _<_, _≤_}
 use lib.ListN.{length, drop, getD}
@@ -9,12 +9,14 @@ use Rattle.std.specs.declared.option.Option.the-variants.{Some, None}
 use Rattle.std.specs.declared.result.Result.{Result}
 use Rattle.std.specs.declared.result.Result.the-variants.{Ok, Err}
 use Rattle.isa.specs.declared.refusal.Refusal.{Refusal}
+use Rattle.isa.specs.declared.refusal.Refusal.the-variants.{Area}
 use Rattle.isa.specs.declared.instruction.Instruction.{Instruction}
+use Rattle.isa.specs.Places.{user}
 use Rattle.isa.specs.Instructions.{targetOf}
 use Rattle.isa.specs.Codes.{width, inRange}
 use Rattle.sequence.specs.declared.image.ImageFault.{ImageFault}
 use Rattle.sequence.specs.declared.image.Found.{Found}
-use Rattle.sequence.specs.Images.{Content, code, wrong, markByte, withFound, walk}
+use Rattle.sequence.specs.Images.{Content, code, wrong, markByte, imageFault, withFound, walk}
 use Rattle.lister.specs.declared.walk.Cursor.{Cursor}
 use Rattle.lister.specs.declared.walk.Read.{Read}
 
@@ -22,13 +24,17 @@ use Rattle.lister.specs.declared.walk.Read.{Read}
 abbrev pub left : List ℕ → Cursor → Result (List Found) ImageFault
 left im c = walk (c .place) (c .inside) 0 (drop (c .place) im)
 
-abbrev pub cursor : ℕ → mathlib.Core.Bool.Bool → Cursor
+abbrev pub cursor : ℕ → Bool → Cursor
 cursor p inside = record { place = p; inside = inside }
 
 -- the operands are in range; hence a target is a place
 pub record Sound (i : Instruction ℕ) : Type 0 where
   pub range : inRange i ≡ true
   pub low : (t : ℕ) → targetOf i ≡ Some t → t ≤ 2047
+
+-- a mark that ends a stretch stands in a user place
+abbrev pub markChecked : Cursor → Result (Unit {0}) ImageFault
+markChecked c = cond (c .inside && not (user (c .place))) (Err (imageFault Area (c .place))) (Ok tt)
 
 -- what a read at place p answers
 abbrev pub Reads : ℕ → Result Read Refusal → Content → Type 0

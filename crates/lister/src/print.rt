@@ -13,13 +13,12 @@ ghost use Rattle.isa.specs.Codes.{inRange};
 ghost use Rattle.isa.specs.Instructions.{letterOf};
 ghost use Rattle.isa.specs.Table.{shapeOf};
 ghost use Rattle.sequence.specs.Images.{walk};
-ghost use Rattle.sequence.specs.Listings.{space, count, operandText, instructionText, atLine, instructionLine, foundText, printed};
+ghost use Rattle.sequence.specs.Listings.{space, count, operandText, instructionText, atLine, instructionLine, opening, foundText, printed};
 ghost use Rattle.sequence.specs.Numbers.{decimal, signed};
-ghost use Rattle.lister.specs.Writes.{Wrote, Small, foundIn};
+ghost use Rattle.lister.specs.Writes.{Wrote, foundIn};
 use crate::walk::Cursor;
 use crate::walk::next;
 use isa::Instruction;
-use isa::Operands;
 use isa::shape_of;
 use sequence::Found;
 use sequence::ImageFault;
@@ -59,19 +58,19 @@ fn write_operand(out: &mut [u8], at: usize, n: i64) -> usize
     write_signed(out, at + 1, n)
 }
 
-/// Writes the operands that a letter takes, each after a space.
-fn write_operands(out: &mut [u8], at: usize, count: usize, operands: Operands) -> usize
-    requires { ⌜ Small operands ⌝ ∗ ⌜ at + length (operandText count operands) ≤ length (now out) ⌝ }
-    ensures { λ r. ⌜ Wrote (operandText count operands) at r (now (out .entry)) (now (out .exit)) ⌝ }
+/// Writes the first `count` of two operands, each after a space.
+fn write_operands(out: &mut [u8], at: usize, count: usize, first: i64, second: i64) -> usize
+    requires { ⌜ natAbs first < 100000000 ⌝ ∗ ⌜ natAbs second < 100000000 ⌝ ∗ ⌜ at + length (operandText count first second) ≤ length (now out) ⌝ }
+    ensures { λ r. ⌜ Wrote (operandText count first second) at r (now (out .entry)) (now (out .exit)) ⌝ }
 {
     if count < 1 {
         return at;
     }
-    let next = write_operand(out, at, operands.first);
+    let next = write_operand(out, at, first);
     if count < 2 {
         return next;
     }
-    write_operand(out, next, operands.second)
+    write_operand(out, next, second)
 }
 
 /// How many operands an instruction's letter takes.
@@ -90,7 +89,8 @@ fn write_instruction(out: &mut [u8], at: usize, instruction: Instruction<u16>) -
     ensures { λ r. ⌜ Wrote (instructionText instruction) at r (now (out .entry)) (now (out .exit)) ⌝ }
 {
     out[at] = instruction.letter();
-    write_operands(out, at + 1, operand_count(instruction), instruction.operands())
+    let operands = instruction.operands();
+    write_operands(out, at + 1, operand_count(instruction), operands.first, operands.second)
 }
 
 /// Writes the line that opens a stretch.
@@ -123,11 +123,19 @@ fn write_found(out: &mut [u8], at: usize, found: Found) -> usize
     requires { ⌜ inRange (found .instruction) ≡ true ⌝ ∗ ⌜ at + length (foundText found) ≤ length (now out) ⌝ }
     ensures { λ r. ⌜ Wrote (foundText found) at r (now (out .entry)) (now (out .exit)) ⌝ }
 {
-    if !found.opens {
-        return write_line(out, at, found.place, found.instruction);
-    }
-    let start = write_at_line(out, at, found.place);
+    let start = write_opening(out, at, found);
     write_line(out, start, found.place, found.instruction)
+}
+
+/// Writes the line that opens a stretch, if this instruction is its first.
+fn write_opening(out: &mut [u8], at: usize, found: Found) -> usize
+    requires { ⌜ at + length (opening found) ≤ length (now out) ⌝ }
+    ensures { λ r. ⌜ Wrote (opening found) at r (now (out .entry)) (now (out .exit)) ⌝ }
+{
+    if found.opens {
+        return write_at_line(out, at, found.place);
+    }
+    at
 }
 
 /// Writes the listing of an image in front of `out`.

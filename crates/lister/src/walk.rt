@@ -7,7 +7,7 @@ ghost use lib.ListN.{length, drop, take, getD};
 ghost use Rattle.isa.specs.Codes.{padded, decoded};
 ghost use Rattle.isa.specs.Laws.{Decodes};
 ghost use Rattle.sequence.specs.Images.{readAt};
-ghost use Rattle.lister.specs.Walks.{left, Reads, Passed, Gives};
+ghost use Rattle.lister.specs.Walks.{left, markChecked, Reads, Passed, Gives};
 use isa::Instruction;
 use isa::Refusal;
 use isa::decode;
@@ -72,10 +72,18 @@ fn skip_marks(image: &[u8], cursor: &mut Cursor) -> Result<(), ImageFault>
     ensures low { λ r. ⌜ now (cursor .exit) .place ≤ 2048 ⌝ }
 {
     while cursor.place < END && image[usize::from(cursor.place)] == MARK {
-        if cursor.inside && !is_user_place(cursor.place) {
-            return Err(ImageFault { refusal: Refusal::Area, place: cursor.place });
-        }
+        check_mark(*cursor)?;
         *cursor = Cursor { place: cursor.place + 1, inside: false };
+    }
+    Ok(())
+}
+
+/// The mark that ends a stretch stands in a user place.
+fn check_mark(cursor: Cursor) -> Result<(), ImageFault>
+    ensures { λ r. ⌜ r ≡ markChecked cursor ⌝ }
+{
+    if cursor.inside && !is_user_place(cursor.place) {
+        return Err(ImageFault { refusal: Refusal::Area, place: cursor.place });
     }
     Ok(())
 }

@@ -5,6 +5,7 @@ use mathlib.Core.List.{List, [], _∷_, _++_}
 use Prim.Native.Nat.{ℕ, _≤_}
 use lib.Chars.{codes}
 use lib.Dec.{eqb, leb, ltb}
+use lib.IntN.{ℤ}
 use lib.ListN.{length}
 use lib.Seq.{sets}
 use Rattle.std.specs.declared.option.Option.{Option}
@@ -13,7 +14,6 @@ use Rattle.std.specs.declared.result.Result.{Result}
 use Rattle.std.specs.declared.result.Result.the-variants.{Ok, Err}
 use Rattle.isa.specs.declared.refusal.Refusal.the-variants.{Size}
 use Rattle.isa.specs.declared.shape.Shape.{Shape}
-use Rattle.isa.specs.declared.shape.Operands.{Operands}
 use Rattle.isa.specs.declared.instruction.Instruction.{Instruction}
 use Rattle.isa.specs.Checks.{andThen, require}
 use Rattle.isa.specs.Places.{imageSize}
@@ -32,8 +32,8 @@ abbrev pub lineFeed : ℕ
 lineFeed = 10
 
 -- the first n of two operands, each after a space
-abbrev pub operandText : ℕ → Operands → List ℕ
-operandText n o = cond (ltb n 1) [] ((space ∷ signed (o .first)) ++ cond (ltb n 2) [] (space ∷ signed (o .second)))
+abbrev pub operandText : ℕ → ℤ → ℤ → List ℕ
+operandText n x y = cond (ltb n 1) [] ((space ∷ signed x) ++ cond (ltb n 2) [] (space ∷ signed y))
 
 abbrev pub count : Option Shape → ℕ
 count None = 0
@@ -41,7 +41,7 @@ count (Some s) = countOf s
 
 -- letter and operands
 abbrev pub instructionText : Instruction ℕ → List ℕ
-instructionText i = letterOf i ∷ operandText (count (shapeOf (letterOf i))) (operandsOf i)
+instructionText i = letterOf i ∷ operandText (count (shapeOf (letterOf i))) (operandsOf i .first) (operandsOf i .second)
 
 -- at n
 abbrev pub atLine : ℕ → List ℕ
@@ -51,8 +51,12 @@ atLine p = codes "at " ++ (decimal p ++ (lineFeed ∷ []))
 abbrev pub instructionLine : ℕ → Instruction ℕ → List ℕ
 instructionLine p i = decimal p ++ (space ∷ (instructionText i ++ (lineFeed ∷ [])))
 
+-- the first instruction of a stretch is listed after the line that opens it
+abbrev pub opening : Found → List ℕ
+opening f = cond (f .opens) (atLine (f .place)) []
+
 abbrev pub foundText : Found → List ℕ
-foundText f = cond (f .opens) (atLine (f .place)) [] ++ instructionLine (f .place) (f .instruction)
+foundText f = opening f ++ instructionLine (f .place) (f .instruction)
 
 abbrev pub printed : List Found → List ℕ
 printed [] = []

@@ -1,6 +1,6 @@
 -- Encoding and decoding are inverse.
 use mathlib.Core.Path.{_≡_, refl, sym, ap, subst, _∙_}
-use mathlib.Core.Bool.{Bool, true, false, cond, _&&_}
+use mathlib.Core.Bool.{Bool, true, false, cond}
 use mathlib.Core.List.{List, [], _∷_}
 use Prim.Native.Nat.{ℕ, zero, suc, _<_, _≤_}
 use native.Mathlib.Omega.{arith}
@@ -9,7 +9,7 @@ use mathlib.Core.Logic.{⊎-elim}
 use lib.IntN.{ℤ, pos, negsuc}
 use lib.ListN.{length, take, getD}
 use Rattle.std.proofs.shelf.Lists.{getD-take}
-use Rattle.std.proofs.shelf.Tests.{cases-eq, ne-eqb, both-ways, and-parts, and-from}
+use Rattle.std.proofs.shelf.Tests.{cases-eq, ne-eqb, both-ways}
 use Rattle.std.proofs.shelf.Ways.{tells}
 use Rattle.std.specs.Options.{mapped}
 use Rattle.std.specs.declared.option.Option.{Option}
@@ -18,6 +18,7 @@ use Rattle.std.specs.declared.result.Result.{Result}
 use Rattle.std.specs.declared.result.Result.the-variants.{Ok, Err}
 use Rattle.isa.specs.declared.refusal.Refusal.{Refusal}
 use Rattle.isa.specs.declared.refusal.Refusal.the-variants.{Code as NoLetter}
+use Rattle.isa.specs.declared.shape.Order.the-variants.{First, Second}
 use Rattle.isa.specs.declared.shape.Shape.{Shape}
 use Rattle.isa.specs.declared.shape.Shape.the-variants.{Plain, Byte, Pair, Word, Target, TargetByte, Signed, Long}
 use Rattle.isa.specs.declared.instruction.Direction.the-variants.{Plus, Minus}
@@ -26,7 +27,8 @@ use Rattle.isa.specs.declared.instruction.Instruction.{Instruction}
 use Rattle.isa.specs.declared.instruction.Instruction.the-variants.{Go, Jump, JumpLow, Act}
 use Rattle.isa.specs.declared.table.Entry.{Entry}
 use Rattle.isa.specs.declared.table.Entry.the-variants.{Unknown, OutOfRange, Fits}
-use Rattle.isa.specs.Shapes.{widthOf, operands, operandsFrom}
+use Rattle.isa.specs.Shapes.{widthOf, two, three, operands, operandsFrom}
+use Rattle.isa.specs.TwosComplement.{half24, valueOf}
 use Rattle.isa.specs.Instructions.{letterOf, targetOf}
 use Rattle.isa.specs.Table.{within, nat, entryAt, entry, shapeIn, shapeOf}
 use Rattle.isa.specs.Codes.{operandBytes, encoded, width, fits, inRange, padded, instructionIn, decodedAs, decoded}
@@ -103,13 +105,19 @@ by-letter P a d g i v j k l o r w z plus minus other n =
     is : (m : ℕ) → P m → (eqb n m ≡ false → P n) → P n
     is m p q = ⊎-elim (λ (e : n ≡ m). subst P (sym e) p) (λ (e : n ≡ m → ⊥). q (ne-eqb n m e)) (cases-eq n m)
 
--- one row of the table
-row-stood : (bs : List ℕ) (t : Bool) (s : Shape) (j i : Instruction ℕ) → (t ≡ true → take (width j) bs ≡ encoded j) → (t ≡ true → inRange j ≡ true) → instructionIn (cond t (Fits s j) (OutOfRange s)) ≡ Ok i → Stood bs i
-row-stood bs true s j i b r e = let h : j ≡ i = cc in subst (Stood bs) h (record { bytes = b refl; range = r refl })
-row-stood bs false s j i b r e = let z : _≡_ {A = ℕ} 0 1 = cc in absurd (omega arith)
+-- what a row says of the operands t and u of one letter
+abbrev ranged : Bool → Bool → Shape → Instruction ℕ → Entry
+ranged t u s j = cond t (cond u (Fits s j) (OutOfRange s Second)) (OutOfRange s First)
 
-in-row : (t : Bool) (s : Shape) (j : Instruction ℕ) → t ≡ true → fits (cond t (Fits s j) (OutOfRange s)) ≡ true
-in-row t s j e = ap (λ b. fits (cond b (Fits s j) (OutOfRange s))) e
+row-stood : (bs : List ℕ) (t u : Bool) (s : Shape) (j i : Instruction ℕ) → take (width j) bs ≡ encoded j → (t ≡ true → u ≡ true → inRange j ≡ true) → instructionIn (ranged t u s j) ≡ Ok i → Stood bs i
+row-stood bs true true s j i b r e = let h : j ≡ i = cc in subst (Stood bs) h (record { bytes = b; range = r refl refl })
+row-stood bs true false s j i b r e = let z : _≡_ {A = ℕ} 0 1 = cc in absurd (omega arith)
+row-stood bs false u s j i b r e = let z : _≡_ {A = ℕ} 0 1 = cc in absurd (omega arith)
+
+in-row : (t u : Bool) (s : Shape) (j : Instruction ℕ) → t ≡ true → u ≡ true → fits (ranged t u s j) ≡ true
+in-row true true s j e f = refl
+in-row true false s j e f = absurd (both-ways false refl f)
+in-row false u s j e f = absurd (both-ways false refl e)
 
 module _ (a b c : ℕ) (ha : a < 256) (hb : b < 256) (hc : c < 256) where
   abbrev Stands : ℕ → Type 0
@@ -118,20 +126,20 @@ module _ (a b c : ℕ) (ha : a < 256) (hb : b < 256) (hc : c < 256) where
   stands : (l : ℕ) → Stands l
   stands =
       by-letter Stands
-      (λ i. row-stood _ _ _ _ i (λ t. refl) (in-row _ _ _))
-      (λ i. row-stood _ _ _ _ i (λ t. refl) (in-row _ _ _))
-      (λ i. row-stood _ _ _ _ i (λ t. grind arith) (in-row _ _ _))
-      (λ i. row-stood _ _ _ _ i (λ t. grind arith) (in-row _ _ _))
-      (λ i. row-stood _ _ _ _ i (λ t. grind arith) (in-row _ _ _))
-      (λ i. row-stood _ _ _ _ i (λ t. grind arith) (in-row _ _ _))
-      (λ i. row-stood _ _ _ _ i (λ t. refl) (in-row _ _ _))
-      (λ i. row-stood _ _ _ _ i (λ t. grind arith) (in-row _ _ _))
-      (λ i. row-stood _ _ _ _ i (λ t. grind (arith, tells)) (in-row _ _ _))
-      (λ i. row-stood _ _ _ _ i (λ t. grind (arith, tells)) (in-row _ _ _))
-      (λ i. row-stood _ _ _ _ i (λ t. grind arith) (in-row _ _ _))
-      (λ i e. row-stood _ true Plain _ i (λ t. refl) (λ t. refl) e)
-      (λ i. row-stood _ _ _ _ i (λ t. grind arith) (in-row _ _ _))
-      (λ i. row-stood _ _ _ _ i (λ t. grind arith) (in-row _ _ _))
+      (λ i. row-stood _ _ true Byte (Act (Outputs a)) i (refl) (in-row _ _ _ _))
+      (λ i. row-stood _ _ true Byte (Act (Divisor a)) i (refl) (in-row _ _ _ _))
+      (λ i. row-stood _ _ true Target (Go (two a b)) i (grind arith) (in-row _ _ _ _))
+      (λ i. row-stood _ _ true Word (Act (InitialSpeed (two a b))) i (grind arith) (in-row _ _ _ _))
+      (λ i. row-stood _ _ true Word (Act (SlewSpeed (two a b))) i (grind arith) (in-row _ _ _ _))
+      (λ i. row-stood _ (within (pos 0) (pos (two a b)) (pos 2047)) (within (pos 0) (pos c) (pos 255)) TargetByte (Jump (two a b) c) i (grind arith) (in-row (within (pos 0) (pos (two a b)) (pos 2047)) (within (pos 0) (pos c) (pos 255)) TargetByte (Jump (two a b) c)))
+      (λ i. row-stood _ (within (pos 1) (pos a) (pos 255)) (within (pos 1) (pos b) (pos 255)) Pair (Act (Rates a b)) i (refl) (in-row (within (pos 1) (pos a) (pos 255)) (within (pos 1) (pos b) (pos 255)) Pair (Act (Rates a b))))
+      (λ i. row-stood _ (within (pos 0) (pos (two a b)) (pos 2047)) (within (pos 1) (pos c) (pos 6)) TargetByte (JumpLow (two a b) c) i (grind arith) (in-row (within (pos 0) (pos (two a b)) (pos 2047)) (within (pos 1) (pos c) (pos 6)) TargetByte (JumpLow (two a b) c)))
+      (λ i. row-stood _ _ true Signed (Act (Origin (valueOf half24 (three a b c)))) i (grind (arith, tells)) (in-row _ _ _ _))
+      (λ i. row-stood _ _ true Signed (Act (IndexTo (valueOf half24 (three a b c)))) i (grind (arith, tells)) (in-row _ _ _ _))
+      (λ i. row-stood _ _ true Word (Act (Wait (two a b))) i (grind arith) (in-row _ _ _ _))
+      (λ i. row-stood _ true true Plain (Act Report) i (refl) (λ _ _. refl))
+      (λ i. row-stood _ _ true Long (Act (Index Plus (three a b c))) i (grind arith) (in-row _ _ _ _))
+      (λ i. row-stood _ _ true Long (Act (Index Minus (three a b c))) i (grind arith) (in-row _ _ _ _))
       (λ l n i e. let z : Err NoLetter ≡ Ok i = subst (λ k. decodedAs (shapeIn k) l a b c ≡ Ok i) (n (pos 0) (pos 0)) e in let y : _≡_ {A = ℕ} 0 1 = cc in absurd (omega arith))
 
 pub stood : (l a b c : ℕ) → a < 256 → b < 256 → c < 256 → (i : Instruction ℕ) → decoded (l ∷ a ∷ b ∷ c ∷ []) ≡ Ok i → Stood (l ∷ a ∷ b ∷ c ∷ []) i
@@ -158,41 +166,41 @@ not-negative : (low high : ℕ) (z : ℤ) → within (pos low) z (pos high) ≡ 
 not-negative low high (pos n) e = refl
 not-negative low high (negsuc n) e = absurd (both-ways false refl e)
 
-row-range : (t : Bool) (s : Shape) (j i : Instruction ℕ) → (t ≡ true → inRange j ≡ true) → instructionIn (cond t (Fits s j) (OutOfRange s)) ≡ Ok i → inRange i ≡ true
-row-range true s j i r e = let h : j ≡ i = cc in subst (λ x. inRange x ≡ true) h (r refl)
-row-range false s j i r e = let z : _≡_ {A = ℕ} 0 1 = cc in absurd (omega arith)
+row-range : (t u : Bool) (s : Shape) (j i : Instruction ℕ) → (t ≡ true → u ≡ true → inRange j ≡ true) → instructionIn (ranged t u s j) ≡ Ok i → inRange i ≡ true
+row-range true true s j i r e = let h : j ≡ i = cc in subst (λ x. inRange x ≡ true) h (r refl refl)
+row-range true false s j i r e = let z : _≡_ {A = ℕ} 0 1 = cc in absurd (omega arith)
+row-range false u s j i r e = let z : _≡_ {A = ℕ} 0 1 = cc in absurd (omega arith)
 
 -- the row of one operand that is not negative, and of two
 row-one : (low high : ℕ) (s : Shape) (make : ℕ → Instruction ℕ) (x : ℤ) (i : Instruction ℕ)
     → ((n : ℕ) → within (pos low) (pos n) (pos high) ≡ true → inRange (make n) ≡ true)
-    → instructionIn (cond (within (pos low) x (pos high)) (Fits s (make (nat x))) (OutOfRange s)) ≡ Ok i → inRange i ≡ true
-row-one low high s make x i r = row-range _ s _ i (λ t. r (nat x) (ap (λ z. within (pos low) z (pos high)) (not-negative low high x t) ∙ t))
+    → instructionIn (ranged (within (pos low) x (pos high)) true s (make (nat x))) ≡ Ok i → inRange i ≡ true
+row-one low high s make x i r = row-range _ true s _ i (λ t _. r (nat x) (ap (λ z. within (pos low) z (pos high)) (not-negative low high x t) ∙ t))
 
 row-two : (low high low2 high2 : ℕ) (s : Shape) (make : ℕ → ℕ → Instruction ℕ) (x y : ℤ) (i : Instruction ℕ)
-    → ((m n : ℕ) → (within (pos low) (pos m) (pos high) && within (pos low2) (pos n) (pos high2)) ≡ true → inRange (make m n) ≡ true)
-    → instructionIn (cond (within (pos low) x (pos high) && within (pos low2) y (pos high2)) (Fits s (make (nat x) (nat y))) (OutOfRange s)) ≡ Ok i → inRange i ≡ true
-row-two low high low2 high2 s make x y i r = row-range _ s _ i (λ t.
-    let p = and-parts _ _ t in
-    r (nat x) (nat y) (and-from _ _ (ap (λ z. within (pos low) z (pos high)) (not-negative low high x (p .0)) ∙ p .0) (ap (λ z. within (pos low2) z (pos high2)) (not-negative low2 high2 y (p .1)) ∙ p .1)))
+    → ((m n : ℕ) → within (pos low) (pos m) (pos high) ≡ true → within (pos low2) (pos n) (pos high2) ≡ true → inRange (make m n) ≡ true)
+    → instructionIn (ranged (within (pos low) x (pos high)) (within (pos low2) y (pos high2)) s (make (nat x) (nat y))) ≡ Ok i → inRange i ≡ true
+row-two low high low2 high2 s make x y i r = row-range _ _ s _ i (λ t u.
+    r (nat x) (nat y) (ap (λ z. within (pos low) z (pos high)) (not-negative low high x t) ∙ t) (ap (λ z. within (pos low2) z (pos high2)) (not-negative low2 high2 y u) ∙ u))
 
 -- what the table gives is in range
 pub entry-in-range : (x y : ℤ) (l : ℕ) (i : Instruction ℕ) → instructionIn (entry l (operands x y)) ≡ Ok i → inRange i ≡ true
 entry-in-range x y =
     by-letter (λ l. (i : Instruction ℕ) → instructionIn (entry l (operands x y)) ≡ Ok i → inRange i ≡ true)
-    (λ i. row-one 0 63 Byte (λ n. Act (Outputs n)) x i (λ n. in-row _ _ _))
-    (λ i. row-one 1 255 Byte (λ n. Act (Divisor n)) x i (λ n. in-row _ _ _))
-    (λ i. row-one 0 2047 Target Go x i (λ n. in-row _ _ _))
-    (λ i. row-one 19 25000 Word (λ n. Act (InitialSpeed n)) x i (λ n. in-row _ _ _))
-    (λ i. row-one 19 25000 Word (λ n. Act (SlewSpeed n)) x i (λ n. in-row _ _ _))
-    (λ i. row-two 0 2047 0 255 TargetByte Jump x y i (λ m n. in-row _ _ _))
-    (λ i. row-two 1 255 1 255 Pair (λ m n. Act (Rates m n)) x y i (λ m n. in-row _ _ _))
-    (λ i. row-two 0 2047 1 6 TargetByte JumpLow x y i (λ m n. in-row _ _ _))
-    (λ i. row-range _ Signed (Act (Origin x)) i (in-row _ _ _))
-    (λ i. row-range _ Signed (Act (IndexTo x)) i (in-row _ _ _))
-    (λ i. row-one 0 65535 Word (λ n. Act (Wait n)) x i (λ n. in-row _ _ _))
-    (λ i. row-range true Plain (Act Report) i (λ _. refl))
-    (λ i. row-one 0 16777215 Long (λ n. Act (Index Plus n)) x i (λ n. in-row _ _ _))
-    (λ i. row-one 0 16777215 Long (λ n. Act (Index Minus n)) x i (λ n. in-row _ _ _))
+    (λ i. row-one 0 63 Byte (λ n. Act (Outputs n)) x i (λ n t. in-row _ true _ _ t refl))
+    (λ i. row-one 1 255 Byte (λ n. Act (Divisor n)) x i (λ n t. in-row _ true _ _ t refl))
+    (λ i. row-one 0 2047 Target Go x i (λ n t. in-row _ true _ _ t refl))
+    (λ i. row-one 19 25000 Word (λ n. Act (InitialSpeed n)) x i (λ n t. in-row _ true _ _ t refl))
+    (λ i. row-one 19 25000 Word (λ n. Act (SlewSpeed n)) x i (λ n t. in-row _ true _ _ t refl))
+    (λ i. row-two 0 2047 0 255 TargetByte Jump x y i (λ m n. in-row _ _ _ _))
+    (λ i. row-two 1 255 1 255 Pair (λ m n. Act (Rates m n)) x y i (λ m n. in-row _ _ _ _))
+    (λ i. row-two 0 2047 1 6 TargetByte JumpLow x y i (λ m n. in-row _ _ _ _))
+    (λ i. row-range _ true Signed (Act (Origin x)) i (in-row _ true _ _))
+    (λ i. row-range _ true Signed (Act (IndexTo x)) i (in-row _ true _ _))
+    (λ i. row-one 0 65535 Word (λ n. Act (Wait n)) x i (λ n t. in-row _ true _ _ t refl))
+    (λ i. row-range true true Plain (Act Report) i (λ _ _. refl))
+    (λ i. row-one 0 16777215 Long (λ n. Act (Index Plus n)) x i (λ n t. in-row _ true _ _ t refl))
+    (λ i. row-one 0 16777215 Long (λ n. Act (Index Minus n)) x i (λ n t. in-row _ true _ _ t refl))
     (λ l n i e. let z : Err NoLetter ≡ Ok i = subst (λ k. instructionIn k ≡ Ok i) (n x y) e in let w : _≡_ {A = ℕ} 0 1 = cc in absurd (omega arith))
 
 -- and what is decoded

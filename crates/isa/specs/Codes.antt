@@ -53,7 +53,7 @@ width i = length (encoded i)
 
 abbrev pub fits : Entry → Bool
 fits Unknown = false
-fits (OutOfRange s) = false
+fits (OutOfRange s k) = false
 fits (Fits s i) = true
 
 -- the operands are in the ranges of the table
@@ -72,7 +72,7 @@ encoding i = cond (inRange i) (Ok (codeOf i)) (Err Range)
 
 abbrev pub instructionIn : Entry → Result (Instruction ℕ) Refusal
 instructionIn Unknown = Err NoLetter
-instructionIn (OutOfRange s) = Err Range
+instructionIn (OutOfRange s k) = Err Range
 instructionIn (Fits s i) = Ok i
 
 abbrev pub decodedAs : Option Shape → ℕ → ℕ → ℕ → ℕ → Result (Instruction ℕ) Refusal

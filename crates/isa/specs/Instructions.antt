@@ -12,20 +12,20 @@ use Rattle.isa.specs.declared.instruction.Instruction.{Instruction}
 use Rattle.isa.specs.declared.instruction.Instruction.the-variants.{Go, Jump, JumpLow, Act}
 
 abbrev pub letterOf : {X : Type 0} → Instruction X → ℕ
-letterOf (Act (Outputs n)) = 65 -- A
-letterOf (Act (Divisor n)) = 68 -- D
-letterOf (Go x) = 71 -- G
-letterOf (Act (InitialSpeed n)) = 73 -- I
-letterOf (Jump x n) = 74 -- J
-letterOf (Act (Rates a d)) = 75 -- K
-letterOf (JumpLow x c) = 76 -- L
-letterOf (Act (Origin z)) = 79 -- O
-letterOf (Act (IndexTo z)) = 82 -- R
-letterOf (Act (SlewSpeed n)) = 86 -- V
-letterOf (Act (Wait n)) = 87 -- W
-letterOf (Act Report) = 90 -- Z
-letterOf (Act (Index Plus n)) = 43 -- +
-letterOf (Act (Index Minus n)) = 45 -- -
+letterOf (Act (Outputs n)) = 65  -- A
+letterOf (Act (Divisor n)) = 68  -- D
+letterOf (Go x) = 71  -- G
+letterOf (Act (InitialSpeed n)) = 73  -- I
+letterOf (Jump x n) = 74  -- J
+letterOf (Act (Rates a d)) = 75  -- K
+letterOf (JumpLow x c) = 76  -- L
+letterOf (Act (Origin z)) = 79  -- O
+letterOf (Act (IndexTo z)) = 82  -- R
+letterOf (Act (SlewSpeed n)) = 86  -- V
+letterOf (Act (Wait n)) = 87  -- W
+letterOf (Act Report) = 90  -- Z
+letterOf (Act (Index Plus n)) = 43  -- +
+letterOf (Act (Index Minus n)) = 45  -- -
 
 -- the operands as numbers, 0 for one that is not there
 abbrev pub operandsOf : Instruction ℕ → Operands

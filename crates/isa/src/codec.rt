@@ -28,7 +28,7 @@ pub fn encode(instruction: Instruction<u16>) -> Result<Code, Refusal>
 {
     match look_up(instruction.letter() as char, instruction.operands()) {
         Entry::Fits(_, _) => Ok(lay(instruction)),
-        Entry::OutOfRange(_) | Entry::Unknown => Err(Refusal::Range),
+        Entry::OutOfRange(_, _) | Entry::Unknown => Err(Refusal::Range),
     }
 }
 
@@ -51,7 +51,7 @@ fn decode_parts(letter: u8, low: u8, middle: u8, high: u8) -> Result<Instruction
     };
     match look_up(letter as char, shape.operands_in([low, middle, high])) {
         Entry::Fits(_, instruction) => Ok(instruction),
-        Entry::OutOfRange(_) => Err(Refusal::Range),
+        Entry::OutOfRange(_, _) => Err(Refusal::Range),
         Entry::Unknown => Err(Refusal::Code),
     }
 }
@@ -67,11 +67,20 @@ fn lay(instruction: Instruction<u16>) -> Code
         Instruction::Jump { target, times } => word_and_byte(letter, target, times),
         Instruction::JumpLow { target, port } => word_and_byte(letter, target, port),
         Instruction::Act(action) => match action {
-            Action::Outputs(n) | Action::Divisor(n) => Code { bytes: [letter, n, 0, 0], len: 2 },
+            Action::Outputs(n) | Action::Divisor(n) => Code {
+                bytes: [letter, n, 0, 0],
+                len: 2,
+            },
             Action::InitialSpeed(n) | Action::SlewSpeed(n) | Action::Wait(n) => word(letter, n),
-            Action::Rates { gain, loss } => Code { bytes: [letter, gain, loss, 0], len: 3 },
+            Action::Rates { gain, loss } => Code {
+                bytes: [letter, gain, loss, 0],
+                len: 3,
+            },
             Action::Origin(n) | Action::IndexTo(n) => long(letter, n.to_le_bytes()),
-            Action::Report => Code { bytes: [letter, 0, 0, 0], len: 1 },
+            Action::Report => Code {
+                bytes: [letter, 0, 0, 0],
+                len: 1,
+            },
             Action::Index { steps, .. } => long(letter, steps.to_le_bytes()),
         },
     }
@@ -81,19 +90,28 @@ fn word(letter: u8, n: u16) -> Code
     ensures { λ r. ⌜ r ≡ record { bytes = letter ∷ n % 256 ∷ n / 256 ∷ 0 ∷ []; len = 3 } ⌝ }
 {
     let [low, high] = n.to_le_bytes();
-    Code { bytes: [letter, low, high, 0], len: 3 }
+    Code {
+        bytes: [letter, low, high, 0],
+        len: 3,
+    }
 }
 
 fn word_and_byte(letter: u8, n: u16, last: u8) -> Code
     ensures { λ r. ⌜ r ≡ record { bytes = letter ∷ n % 256 ∷ n / 256 ∷ last ∷ []; len = 4 } ⌝ }
 {
     let [low, high] = n.to_le_bytes();
-    Code { bytes: [letter, low, high, last], len: 4 }
+    Code {
+        bytes: [letter, low, high, last],
+        len: 4,
+    }
 }
 
 fn long(letter: u8, bytes: [u8; 4]) -> Code
     ensures { λ r. ⌜ r ≡ record { bytes = letter ∷ getD bytes 0 0 ∷ getD bytes 1 0 ∷ getD bytes 2 0 ∷ []; len = 4 } ⌝ }
 {
     let [low, middle, high, _] = bytes;
-    Code { bytes: [letter, low, middle, high], len: 4 }
+    Code {
+        bytes: [letter, low, middle, high],
+        len: 4,
+    }
 }

@@ -66,8 +66,14 @@ impl Instruction<u16> {
                 Action::IndexTo(_) => b'R',
                 Action::Wait(_) => b'W',
                 Action::Report => b'Z',
-                Action::Index { direction: Direction::Plus, .. } => b'+',
-                Action::Index { direction: Direction::Minus, .. } => b'-',
+                Action::Index {
+                    direction: Direction::Plus,
+                    ..
+                } => b'+',
+                Action::Index {
+                    direction: Direction::Minus,
+                    ..
+                } => b'-',
             },
         }
     }
@@ -82,7 +88,10 @@ impl Instruction<u16> {
             Instruction::JumpLow { target, port } => (i64::from(target), i64::from(port)),
             Instruction::Act(action) => match action {
                 Action::Outputs(n) | Action::Divisor(n) => (i64::from(n), 0),
-                Action::InitialSpeed(n) | Action::SlewSpeed(n) | Action::Wait(n) => (i64::from(n), 0),
+                Action::InitialSpeed(n) | Action::SlewSpeed(n) | Action::Wait(n) => (
+                    i64::from(n),
+                    0,
+                ),
                 Action::Rates { gain, loss } => (i64::from(gain), i64::from(loss)),
                 Action::Origin(n) | Action::IndexTo(n) => (i64::from(n), 0),
                 Action::Report => (0, 0),

@@ -20,6 +20,7 @@ pub use place::is_user_place;
 pub use place::page_of;
 pub use refusal::Refusal;
 pub use shape::Operands;
+pub use shape::Order;
 pub use shape::Shape;
 pub use table::Entry;
 pub use table::look_up;

@@ -11,6 +11,13 @@ pub struct Operands {
     pub second: i64,
 }
 
+/// The first or the second of two operands.
+#[derive(Clone, Copy)]
+pub enum Order {
+    First,
+    Second,
+}
+
 /// The operands that a letter takes and the bytes that they take, low byte first.
 #[derive(Clone, Copy)]
 pub enum Shape {
@@ -62,7 +69,8 @@ impl Shape {
     {
         match self {
             Shape::Target | Shape::TargetByte => true,
-            Shape::Plain | Shape::Byte | Shape::Pair | Shape::Word | Shape::Signed | Shape::Long => false,
+            Shape::Plain | Shape::Byte | Shape::Pair | Shape::Word | Shape::Signed | Shape::Long =>
+                false,
         }
     }
 

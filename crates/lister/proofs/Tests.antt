@@ -32,11 +32,11 @@ marks-at [] m t h = refl
 marks-at (f ∷ fs) m t h =
     marks-at fs (set m (f .place) true) t (omega (arith, length-set m (f .place) true))
     ∙ ⊎-elim (λ (e : f .place ≡ t).
-      ap (λ b. begins fs t || b) (ap (λ q. getD (set m q true) t false) e ∙ getD-set-same m t true false h)
-      ∙ or-right (begins fs t) true refl ∙ sym (ap (λ b. (b || begins fs t) || getD m t false) (eq-eqb (f .place) t e)))
+    ap (λ b. begins fs t || b) (ap (λ q. getD (set m q true) t false) e ∙ getD-set-same m t true false h)
+    ∙ or-right (begins fs t) true refl ∙ sym (ap (λ b. (b || begins fs t) || getD m t false) (eq-eqb (f .place) t e)))
     (λ (n : f .place ≡ t → ⊥).
-      let d : t ≢ f .place = λ e. n (sym e) in
-      ap (λ b. begins fs t || b) (getD-set-other m (f .place) t true false d) ∙ sym (ap (λ b. (b || begins fs t) || getD m t false) (ne-eqb (f .place) t n)))
+    let d : t ≢ f .place = λ e. n (sym e) in
+    ap (λ b. begins fs t || b) (getD-set-other m (f .place) t true false d) ∙ sym (ap (λ b. (b || begins fs t) || getD m t false) (ne-eqb (f .place) t n)))
     (cases-eq (f .place) t)
 
 abbrev blank : List Bool

@@ -11,6 +11,7 @@ mod targets;
 mod walk;
 
 const IMAGE_SIZE: usize = 2_048;
+
 const LISTING_ROOM: usize = 16_384;
 
 /// Lists an image: its listing in front of `out`, and how many bytes that takes.
@@ -23,7 +24,10 @@ pub fn list(image: &[u8], out: &mut [u8]) -> Result<usize, ImageFault>
     ensures short { λ _. ⌜ Short (now (image .entry)) ⌝ }
 {
     if image.len() != IMAGE_SIZE || out.len() < LISTING_ROOM {
-        return Err(ImageFault { refusal: Refusal::Size, place: 0 });
+        return Err(ImageFault {
+            refusal: Refusal::Size,
+            place: 0,
+        });
     }
     let firsts = targets::first_bytes(image)?;
     targets::check(image, &firsts)?;

@@ -90,7 +90,13 @@ fn write_instruction(out: &mut [u8], at: usize, instruction: Instruction<u16>) -
 {
     out[at] = instruction.letter();
     let operands = instruction.operands();
-    write_operands(out, at + 1, operand_count(instruction), operands.first, operands.second)
+    write_operands(
+        out,
+        at + 1,
+        operand_count(instruction),
+        operands.first,
+        operands.second,
+    )
 }
 
 /// Writes the line that opens a stretch.

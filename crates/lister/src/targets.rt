@@ -45,7 +45,10 @@ fn check_found(found: Found, firsts: &[bool; 2_048]) -> Result<(), ImageFault>
 {
     match found.instruction.target() {
         Some(target) if !firsts[usize::from(target)] => {
-            Err(ImageFault { refusal: Refusal::Target, place: found.place })
+            Err(ImageFault {
+                refusal: Refusal::Target,
+                place: found.place,
+            })
         }
         _ => Ok(()),
     }

@@ -17,6 +17,7 @@ use sequence::Found;
 use sequence::ImageFault;
 
 const END: u16 = 2_048;
+
 const MARK: u8 = 255;
 
 /// How far the walk has come, and whether a stretch is open there.
@@ -30,7 +31,10 @@ impl Cursor {
     pub fn start() -> Cursor
         ensures { λ r. ⌜ r ≡ record { place = 0; inside = false } ⌝ }
     {
-        Cursor { place: 0, inside: false }
+        Cursor {
+            place: 0,
+            inside: false,
+        }
     }
 }
 
@@ -52,14 +56,24 @@ pub fn next(image: &[u8], cursor: &mut Cursor) -> Result<Option<Found>, ImageFau
     let inside = cursor.inside;
     if place == END {
         if inside {
-            return Err(ImageFault { refusal: Refusal::Area, place });
+            return Err(ImageFault {
+                refusal: Refusal::Area,
+                place,
+            });
         }
         return Ok(None);
     }
     match read_at(image, place) {
         Ok(read) => {
-            *cursor = Cursor { place: place + read.width, inside: true };
-            Ok(Some(Found { place, instruction: read.instruction, opens: !inside }))
+            *cursor = Cursor {
+                place: place + read.width,
+                inside: true,
+            };
+            Ok(Some(Found {
+                place,
+                instruction: read.instruction,
+                opens: !inside,
+            }))
         }
         Err(refusal) => Err(ImageFault { refusal, place }),
     }
@@ -73,7 +87,10 @@ fn skip_marks(image: &[u8], cursor: &mut Cursor) -> Result<(), ImageFault>
 {
     while cursor.place < END && image[usize::from(cursor.place)] == MARK {
         check_mark(*cursor)?;
-        *cursor = Cursor { place: cursor.place + 1, inside: false };
+        *cursor = Cursor {
+            place: cursor.place + 1,
+            inside: false,
+        };
     }
     Ok(())
 }
@@ -83,7 +100,10 @@ fn check_mark(cursor: Cursor) -> Result<(), ImageFault>
     ensures { λ r. ⌜ r ≡ markChecked cursor ⌝ }
 {
     if cursor.inside && !is_user_place(cursor.place) {
-        return Err(ImageFault { refusal: Refusal::Area, place: cursor.place });
+        return Err(ImageFault {
+            refusal: Refusal::Area,
+            place: cursor.place,
+        });
     }
     Ok(())
 }
@@ -105,7 +125,10 @@ fn read_at(image: &[u8], place: u16) -> Result<Read, Refusal>
         return Err(Refusal::Area);
     }
     let instruction = decode_bytes(&image[start..start + width])?;
-    Ok(Read { instruction, width: width as u16 })
+    Ok(Read {
+        instruction,
+        width: width as u16,
+    })
 }
 
 /// The instruction that these bytes are, 0 standing for those past their end.

@@ -12,7 +12,9 @@ use std::io::Write;
 use wording::image_line;
 
 const IMAGE_SIZE: usize = 2_048;
+
 const LISTING_ROOM: usize = 16_384;
+
 const UNTOUCHED: u8 = 170;
 
 #[derive(Drop)]
@@ -38,7 +40,10 @@ fn run(rt: &LibcRuntime) -> Result<(), AnyError> {
 
 fn case_of(heap: Global, items: &str) -> Result<Case, AnyError> {
     let image = vec![in heap; 255u8; IMAGE_SIZE]?;
-    let mut case = Case { image, room: LISTING_ROOM };
+    let mut case = Case {
+        image,
+        room: LISTING_ROOM,
+    };
     for item in items.split(';') {
         change(heap, &mut case, item.trim())?;
     }
@@ -62,11 +67,18 @@ fn change(heap: Global, case: &mut Case, item: &str) -> Result<(), AnyError> {
         case.image = vec![in heap; b.parse::<u8>()?; len]?;
         return Ok(());
     }
-    let (head, bytes) = item.split_once(":").ok_or("an item is none of those there are")?;
+    let (head, bytes) = item.split_once(":")
+        .ok_or("an item is none of those there are")?;
     match head.strip_prefix("repeat ") {
         Some(rest) => {
-            let (times, place) = rest.split_once(" from ").ok_or("a repeat without its place")?;
-            put(&mut case.image, place.parse::<usize>()?, times.parse::<u16>()?, bytes)
+            let (times, place) = rest.split_once(" from ")
+                .ok_or("a repeat without its place")?;
+            put(
+                &mut case.image,
+                place.parse::<usize>()?,
+                times.parse::<u16>()?,
+                bytes,
+            )
         }
         None => put(&mut case.image, head.parse::<usize>()?, 1, bytes),
     }

@@ -14,6 +14,7 @@ use wording::image_line;
 use wording::sentence;
 
 const IMAGE_SIZE: u64 = 2_048;
+
 const LISTING_ROOM: usize = 16_384;
 
 fn main(rt: LibcRuntime) -> Result<(), AnyError> {
@@ -21,7 +22,13 @@ fn main(rt: LibcRuntime) -> Result<(), AnyError> {
         Ok(image) => print_listing(&rt, image.as_slice()),
         Err(error) => {
             eprintln!(rt, "seqlist: standard input cannot be read: {error}")?;
-            refuse(&rt, ImageFault { refusal: Refusal::Size, place: 0 })
+            refuse(
+                &rt,
+                ImageFault {
+                    refusal: Refusal::Size,
+                    place: 0,
+                },
+            )
         }
     }
 }
@@ -38,18 +45,27 @@ fn print_listing(rt: &LibcRuntime, image: &[u8]) -> Result<(), AnyError> {
     match list(image, out.as_mut_slice()) {
         Ok(len) => {
             out.truncate(len);
-            rt.stdout().write_all(out.as_slice())?;
-            Ok(())
+            write_out(rt, out.as_slice())
         }
-        Err(fault) => refuse(rt, fault),
+        Err(fault) => {
+            let place = fault.place;
+            let why = sentence(fault.refusal);
+            eprintln!(rt, "seqlist: place {place}: {why}")?;
+            refuse(rt, fault)
+        }
     }
 }
 
-/// Says why, and ends the program with status 1.
+/// Answers the refusal, and ends the program with status 1.
 fn refuse(rt: &LibcRuntime, fault: ImageFault) -> Result<(), AnyError> {
-    rt.print(image_line(rt.alloc(), fault)?)?;
-    let place = fault.place;
-    let why = sentence(fault.refusal);
-    eprintln!(rt, "seqlist: place {place}: {why}")?;
+    write_out(rt, image_line(rt.alloc(), fault)?.as_bytes())?;
     Err("the image is refused".into())
+}
+
+fn write_out(rt: &LibcRuntime, bytes: &[u8]) -> Result<(), AnyError> {
+    if let Err(error) = rt.stdout().write_all(bytes) {
+        eprintln!(rt, "seqlist: standard output cannot be written: {error}")?;
+        return Err(error.into());
+    }
+    Ok(())
 }

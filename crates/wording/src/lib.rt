@@ -14,14 +14,18 @@ pub fn sentence(refusal: Refusal) -> &'static str
     ensures { λ r. ⌜ now r ≡ sentenceOf refusal ⌝ }
 {
     match refusal {
-        Refusal::Size => "the size is wrong: an image has 2,048 bytes, a text at most 16,384 bytes, 2,048 lines and 64 labels",
+        Refusal::Size =>
+            "the size is wrong: an image has 2,048 bytes, a text at most 16,384 bytes, 2,048 lines and 64 labels",
         Refusal::Character => "a byte that is not allowed: only printable ASCII and line feeds are",
-        Refusal::Letter => "no such command: the letters are A D G I J K L O R V W Z + and -, in upper case",
+        Refusal::Letter =>
+            "no such command: the letters are A D G I J K L O R V W Z + and -, in upper case",
         Refusal::Long => "too long: a line has at most 80 bytes, a message 12",
         Refusal::Operands => "the parts of the line are wrong in number or form",
         Refusal::Range => "an operand is outside its range",
-        Refusal::Stale => "the written place is not where the line falls: correct this place and every target after it",
-        Refusal::Area => "outside the user places 0 to 192 and 256 to 2047, the mark that follows included, or no stretch was opened",
+        Refusal::Stale =>
+            "the written place is not where the line falls: correct this place and every target after it",
+        Refusal::Area =>
+            "outside the user places 0 to 192 and 256 to 2047, the mark that follows included, or no stretch was opened",
         Refusal::Label => "a label that is defined twice, or nowhere",
         Refusal::Target => "the target is not the first byte of an instruction",
         Refusal::Overlap => "another stretch has a byte or its mark here",

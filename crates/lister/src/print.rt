@@ -19,6 +19,7 @@ ghost use Rattle.lister.specs.Writes.{Wrote, foundIn};
 use crate::walk::Cursor;
 use crate::walk::next;
 use isa::Instruction;
+use isa::Operands;
 use isa::shape_of;
 use sequence::Found;
 use sequence::ImageFault;
@@ -89,14 +90,9 @@ fn write_instruction(out: &mut [u8], at: usize, instruction: Instruction<u16>) -
     ensures { λ r. ⌜ Wrote (instructionText instruction) at r (now (out .entry)) (now (out .exit)) ⌝ }
 {
     out[at] = instruction.letter();
-    let operands = instruction.operands();
-    write_operands(
-        out,
-        at + 1,
-        operand_count(instruction),
-        operands.first,
-        operands.second,
-    )
+    let Operands { first, second } = instruction.operands();
+    let count = operand_count(instruction);
+    write_operands(out, at + 1, count, first, second)
 }
 
 /// Writes the line that opens a stretch.

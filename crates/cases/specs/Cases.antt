@@ -10,9 +10,15 @@ use Rattle.std.specs.declared.result.Result.the-variants.{Ok, Err}
 use Rattle.isa.specs.Places.{imageSize}
 use Rattle.isa.specs.Refusals.{numberOf}
 use Rattle.sequence.specs.declared.image.ImageFault.{ImageFault}
+use Rattle.sequence.specs.declared.text.TextFault.{TextFault}
 use Rattle.sequence.specs.Listings.{listed}
+use Rattle.sequence.specs.Translations.{Translation, translation}
 
 pub data Case : Type 0 where
+  -- a text is translated into an image that begins so and holds 255 elsewhere
+  translates : List ℕ → List ℕ → Case
+  -- it is refused with this number at this line and column
+  untranslated : List ℕ → ℕ → ℕ → ℕ → Case
   -- an image that begins so and holds 255 elsewhere has this listing
   lists : List ℕ → List ℕ → Case
   -- it is refused with this number at this place
@@ -37,7 +43,17 @@ abbrev pub refuses : Result (List ℕ) ImageFault → ℕ → ℕ → Bool
 refuses (Ok text) n p = false
 refuses (Err f) n p = eqb (numberOf (f .refusal)) n && eqb (f .place) p
 
+abbrev pub yields : Result Translation TextFault → List ℕ → Bool
+yields (Ok t) want = same (t .image) want
+yields (Err f) want = false
+
+abbrev pub names : Result Translation TextFault → ℕ → ℕ → ℕ → Bool
+names (Ok t) n l c = false
+names (Err f) n l c = eqb (numberOf (f .refusal)) n && (eqb (f .line) l && eqb (f .column) c)
+
 abbrev pub passes : Case → Bool
+passes (translates text front) = yields (translation text) (image front)
+passes (untranslated text n l c) = names (translation text) n l c
 passes (lists front text) = gives (listed (image front) 16384) text
 passes (unlisted front n p) = refuses (listed (image front) 16384) n p
 passes (unsized size room n) = refuses (listed (replicate size 255) room) n 0
@@ -57,9 +73,40 @@ workedImage = 79 ∷ 0 ∷ 0 ∷ 0 ∷ 82 ∷ 176 ∷ 4 ∷ 0 ∷ 87 ∷ 0 ∷ 0
 abbrev pub workedListing : List ℕ
 workedListing = codes "at 0\n0 O 0\n4 R 1200\n8 W 0\n11 R -1200\n15 W 43\n18 J 4 2\n"
 
+abbrev pub workedText : List ℕ
+workedText = codes "at 0\nO 0\nback: R 1200\nW 0\nR -1200\nW 43\nJ back 2\n"
+
 abbrev pub cases : List Case
 cases =
-    lists workedImage workedListing
+    translates workedText workedImage
+    ∷ translates workedListing workedImage
+    -- a place was cut out of the listing: the next one is stale
+    ∷ untranslated (codes "at 0\n4 R 1200\n8 W 0\n11 R -1200\n15 W 43\n18 J 4 2\n") 7 2 1
+    -- the mark of a W at 190 would stand at 193
+    ∷ untranslated (codes "at 190\nW 0\n") 8 2 0
+    ∷ untranslated (codes "at 190\nW 0\nZ") 8 2 0
+    -- stretches in any order, side by side
+    ∷ translates (codes "at 2\nZ\nat 0\nZ") (90 ∷ 255 ∷ 90 ∷ [])
+    ∷ untranslated (codes "at 2\nZ\nat 0\nZ\nZ\nZ\n") 11 5 0
+    -- what touches a letter is its operand
+    ∷ untranslated (codes "at 0\n-5 Z") 5 2 0
+    ∷ untranslated (codes "at 0\n+-5") 6 2 1
+    ∷ untranslated (codes "at 0\nA64") 6 2 1
+    -- eight digits at most
+    ∷ untranslated (codes "at 0\n123456789 Z") 3 2 1
+    ∷ untranslated (codes "at 123456789") 5 1 0
+    ∷ untranslated (codes "at 0\nG 123456789") 6 2 3
+    -- targets and labels
+    ∷ untranslated (codes "at 0\nG 5") 10 2 3
+    ∷ untranslated (codes "at 0\nGx") 9 2 1
+    ∷ untranslated (codes "at 0\nx: Z\nx: Z") 9 3 1
+    ∷ translates (codes "at 0\nat: G at\n, ,\n") (71 ∷ 0 ∷ 0 ∷ [])
+    ∷ untranslated (codes "0 at 5") 3 1 3
+    ∷ untranslated (codes "Z") 8 1 0
+    ∷ untranslated (codes "at 0\nA 64 x") 5 2 0
+    ∷ untranslated (codes "at 0\n200 Z") 8 2 0
+    ∷ untranslated (codes "at 0\nz") 3 2 1
+    ∷ lists workedImage workedListing
     -- nothing is listed of nothing
     ∷ lists [] []
     -- two stretches, one mark between

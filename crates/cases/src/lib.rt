@@ -10,5 +10,5 @@ pub fn worked_cases() -> usize
     ensures passed { λ _. ⌜ allPass cases ≡ true ⌝ }
     ensures counted { λ r. ⌜ r ≡ length cases ⌝ }
 {
-    14
+    36
 }

@@ -1,3 +1,9 @@
 pub mod Numbers
+pub mod Texts
+pub mod Lines
+pub mod Placings
+pub mod Translations
+pub mod Layouts
 pub mod Images
 pub mod Listings
+pub mod RoundTrips

@@ -1,0 +1,9 @@
+pub mod Basics
+pub mod Painting
+pub mod Passes
+pub mod Ranges
+pub mod LabelCounts
+pub mod Aiming
+pub mod Placing
+pub mod Labels
+pub mod Laying

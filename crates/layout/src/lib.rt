@@ -1,0 +1,1 @@
+//! Accepted texts stand in their images: what the translation has to do with the layout.

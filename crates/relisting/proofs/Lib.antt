@@ -1,0 +1,12 @@
+pub mod Digits
+pub mod Tokens
+pub mod PrintedLines
+pub mod Chains
+pub mod PrintedTexts
+pub mod Walks
+pub mod Writes
+pub mod Plans
+pub mod Again
+pub mod Items
+pub mod Listed
+pub mod RoundTrips

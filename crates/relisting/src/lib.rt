@@ -1,0 +1,1 @@
+//! A listing, read again, gives its image again.

@@ -1,0 +1,3 @@
+pub mod Parts
+pub mod Plans
+pub mod Answers

@@ -3,6 +3,7 @@
 ghost use mathlib.Core.Path.{_≡_};
 ghost use lib.ListN.{length};
 ghost use Rattle.sequence.specs.Listings.{listed, answered, written, Short};
+ghost use Rattle.sequence.specs.RoundTrips.{Relists, Refuses-rightly};
 use isa::Refusal;
 use sequence::ImageFault;
 
@@ -22,6 +23,8 @@ pub fn list(image: &[u8], out: &mut [u8]) -> Result<usize, ImageFault>
     ensures answer { λ r. ⌜ r ≡ answered (listed (now (image .entry)) (length (now (out .entry)))) ⌝ }
     ensures output { λ _. ⌜ now (out .exit) ≡ written (now (out .entry)) (listed (now (image .entry)) (length (now (out .entry)))) ⌝ }
     ensures short { λ _. ⌜ Short (now (image .entry)) ⌝ }
+    ensures relisted { λ _. ⌜ Relists (now (image .entry)) ⌝ }
+    ensures exact { λ _. ⌜ Refuses-rightly (now (image .entry)) ⌝ }
 {
     if image.len() != IMAGE_SIZE || out.len() < LISTING_ROOM {
         return Err(ImageFault {

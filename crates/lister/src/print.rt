@@ -141,7 +141,7 @@ fn write_opening(out: &mut [u8], at: usize, found: Found) -> usize
 }
 
 /// Writes the listing of an image in front of `out`.
-pub fn print(image: &[u8], out: &mut [u8]) -> Result<usize, ImageFault>
+pub(crate) fn print(image: &[u8], out: &mut [u8]) -> Result<usize, ImageFault>
     requires { ⌜ length (now image) ≡ 2048 ⌝ ∗ ⌜ isOk (walk 0 false 0 (now image)) ≡ true ⌝ ∗ ⌜ length (printed (foundIn (walk 0 false 0 (now image)))) ≤ length (now out) ⌝ }
     ensures answer { λ r. ⌜ r ≡ Ok (length (printed (foundIn (walk 0 false 0 (now (image .entry)))))) ⌝ }
     ensures output { λ _. ⌜ now (out .exit) ≡ sets (now (out .entry)) 0 (printed (foundIn (walk 0 false 0 (now (image .entry))))) ⌝ }

@@ -15,7 +15,7 @@ use sequence::Found;
 use sequence::ImageFault;
 
 /// For each place, whether an instruction begins there.
-pub fn first_bytes(image: &[u8]) -> Result<[bool; 2_048], ImageFault>
+pub(crate) fn first_bytes(image: &[u8]) -> Result<[bool; 2_048], ImageFault>
     requires { ⌜ length (now image) ≡ 2048 ⌝ }
     ensures { λ r. ⌜ r ≡ firsts (walk 0 false 0 (now (image .entry))) (replicate 2048 false) ⌝ }
 {
@@ -28,7 +28,7 @@ pub fn first_bytes(image: &[u8]) -> Result<[bool; 2_048], ImageFault>
 }
 
 /// Refuses the first instruction whose target is no first byte.
-pub fn check(image: &[u8], firsts: &[bool; 2_048]) -> Result<(), ImageFault>
+pub(crate) fn check(image: &[u8], firsts: &[bool; 2_048]) -> Result<(), ImageFault>
     requires { ⌜ length (now image) ≡ 2048 ⌝ ∗ ⌜ isOk (walk 0 false 0 (now image)) ≡ true ⌝ }
     ensures { λ r. ⌜ r ≡ checked (now (firsts .entry)) (walk 0 false 0 (now (image .entry))) ⌝ }
 {

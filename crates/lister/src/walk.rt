@@ -22,13 +22,13 @@ const MARK: u8 = 255;
 
 /// How far the walk has come, and whether a stretch is open there.
 #[derive(Clone, Copy)]
-pub struct Cursor {
+pub(crate) struct Cursor {
     pub place: u16,
     pub inside: bool,
 }
 
 impl Cursor {
-    pub fn start() -> Cursor
+    pub(crate) fn start() -> Cursor
         ensures { λ r. ⌜ r ≡ record { place = 0; inside = false } ⌝ }
     {
         Cursor {
@@ -40,13 +40,13 @@ impl Cursor {
 
 /// An instruction and its number of bytes.
 #[derive(Clone, Copy)]
-pub struct Read {
+pub(crate) struct Read {
     instruction: Instruction<u16>,
     width: u16,
 }
 
 /// The next instruction, or `None` at the end of the image.
-pub fn next(image: &[u8], cursor: &mut Cursor) -> Result<Option<Found>, ImageFault>
+pub(crate) fn next(image: &[u8], cursor: &mut Cursor) -> Result<Option<Found>, ImageFault>
     requires { ⌜ length (now image) ≡ 2048 ⌝ ∗ ⌜ now cursor .place ≤ 2048 ⌝ }
     ensures gives { λ r. ⌜ Gives r (now (image .entry)) (now (cursor .entry)) (now (cursor .exit)) ⌝ }
     ensures low { λ r. ⌜ now (cursor .exit) .place ≤ 2048 ⌝ }

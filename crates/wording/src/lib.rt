@@ -1,11 +1,14 @@
 //! Refusals in words, for programs and for people.
 
 ghost use mathlib.Core.Path.{_≡_};
+ghost use Prim.Native.Nat.{_/_, _%_};
+ghost use Rattle.isa.specs.Refusals.{numberOf};
 ghost use Rattle.std.specs.Of.String.{string-bytes};
 ghost use Rattle.std.specs.Vec.{made};
-ghost use Rattle.wording.specs.Words.{sentenceOf, numberedLine, imageLine};
+ghost use Rattle.wording.specs.Words.{sentenceOf, imageLine, textLine};
 use isa::Refusal;
 use sequence::ImageFault;
+use sequence::TextFault;
 use std::alloc::AllocError;
 use std::alloc::Global;
 
@@ -23,7 +26,7 @@ pub fn sentence(refusal: Refusal) -> &'static str
         Refusal::Operands => "the parts of the line are wrong in number or form",
         Refusal::Range => "an operand is outside its range",
         Refusal::Stale =>
-            "the written place is not where the line falls: correct this place and every target after it",
+            "the written place is not where the line falls: correct it, the places after it and every target that has moved",
         Refusal::Area =>
             "outside the user places 0 to 192 and 256 to 2047, the mark that follows included, or no stretch was opened",
         Refusal::Label => "a label that is defined twice, or nowhere",
@@ -42,13 +45,28 @@ pub fn sentence(refusal: Refusal) -> &'static str
 pub fn image_line(heap: Global, fault: ImageFault) -> Result<String, AllocError>
     ensures { λ r. ⌜ made r (λ s. string-bytes s ≡ imageLine fault) ⌝ }
 {
-    numbered_line(heap, fault.refusal.number(), fault.place)
+    let (tens, ones) = digits(fault.refusal);
+    let place = fault.place;
+    format!(heap, "?{tens}{ones} {place}\n")
 }
 
-fn numbered_line(heap: Global, number: u8, place: u16) -> Result<String, AllocError>
-    ensures { λ r. ⌜ made r (λ s. string-bytes s ≡ numberedLine number place) ⌝ }
+/// The same for a text: `?`, two digits, a space, the line, a space, the column, a line feed.
+pub fn text_line(heap: Global, fault: TextFault) -> Result<String, AllocError>
+    ensures { λ r. ⌜ made r (λ s. string-bytes s ≡ textLine fault) ⌝ }
 {
+    let (tens, ones) = digits(fault.refusal);
+    let line = fault.line;
+    let column = fault.column;
+    format!(heap, "?{tens}{ones} {line} {column}\n")
+}
+
+/// The two digits of a refusal's number.
+fn digits(refusal: Refusal) -> (u8, u8)
+    ensures tens { λ r. ⌜ r .0 ≡ numberOf refusal / 10 ⌝ }
+    ensures ones { λ r. ⌜ r .1 ≡ numberOf refusal % 10 ⌝ }
+{
+    let number = refusal.number();
     let tens = number / 10;
     let ones = number % 10;
-    format!(heap, "?{tens}{ones} {place}\n")
+    (tens, ones)
 }

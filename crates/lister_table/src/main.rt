@@ -2,13 +2,15 @@
 //!
 //! A case is `NAME | ITEM; ITEM; ..`. The items change an image of 2,048 bytes of 255, in their order: `len N` gives it
 //! N bytes, `fill B` makes every byte B, `P: B B ..` puts bytes from place P on, `repeat N from P: B B ..` puts them N
-//! times; `room N` gives the output N bytes.
+//! times; `room N` gives the output N bytes. Each listing is translated again, and its image compared.
 
 use lister::list;
+use sequence::Label;
 use std::alloc::Global;
 use std::error::AnyError;
 use std::io::Read;
 use std::io::Write;
+use translator::translate;
 use wording::image_line;
 
 const IMAGE_SIZE: usize = 2_048;
@@ -16,6 +18,14 @@ const IMAGE_SIZE: usize = 2_048;
 const LISTING_ROOM: usize = 16_384;
 
 const UNTOUCHED: u8 = 170;
+
+const TABLE_SIZE: usize = 64;
+
+const NO_LABEL: Label = Label {
+    name: [0; 8],
+    line: 0,
+    place: 0,
+};
 
 #[derive(Drop)]
 struct Case {
@@ -103,7 +113,10 @@ fn show(rt: &LibcRuntime, case: &Case) -> Result<(), AnyError> {
     let mut out = vec![in rt.alloc(); UNTOUCHED; case.room]?;
     let answer = list(case.image.as_slice(), out.as_mut_slice());
     let written = match answer {
-        Ok(len) => len,
+        Ok(len) => {
+            comes_back(rt.alloc(), &out.as_slice()[0..len], case.image.as_slice())?;
+            len
+        }
         Err(fault) => {
             rt.print(image_line(rt.alloc(), fault)?)?;
             0
@@ -116,5 +129,18 @@ fn show(rt: &LibcRuntime, case: &Case) -> Result<(), AnyError> {
     }
     out.truncate(written);
     rt.stdout().write_all(out.as_slice())?;
+    Ok(())
+}
+
+/// The listing is a text that is translated into the same image.
+fn comes_back(heap: Global, listing: &[u8], image: &[u8]) -> Result<(), AnyError> {
+    let mut again = vec![in heap; UNTOUCHED; IMAGE_SIZE]?;
+    let mut labels = [NO_LABEL; TABLE_SIZE];
+    if translate(listing, again.as_mut_slice(), &mut labels).is_err() {
+        return Err("the listing is refused as a text".into());
+    }
+    if again.as_slice() != image {
+        return Err("the listing has another image".into());
+    }
     Ok(())
 }

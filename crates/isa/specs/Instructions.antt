@@ -49,3 +49,10 @@ targetOf (Go x) = Some x
 targetOf (Jump x n) = Some x
 targetOf (JumpLow x c) = Some x
 targetOf (Act a) = None
+
+-- the same instruction, its target replaced
+abbrev pub retarget : {X Y : Type 0} → (X → Y) → Instruction X → Instruction Y
+retarget f (Go x) = Go (f x)
+retarget f (Jump x n) = Jump (f x) n
+retarget f (JumpLow x c) = JumpLow (f x) c
+retarget f (Act a) = Act a

@@ -16,6 +16,7 @@ pub use codec::encode;
 pub use instruction::Action;
 pub use instruction::Direction;
 pub use instruction::Instruction;
+pub use instruction::InstructionClone;
 pub use place::is_user_place;
 pub use place::page_of;
 pub use refusal::Refusal;

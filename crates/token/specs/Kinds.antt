@@ -9,18 +9,19 @@ use Rattle.std.specs.Options.{isSome}
 use Rattle.std.specs.declared.option.Option.{Option}
 use Rattle.std.specs.declared.option.Option.the-variants.{Some, None}
 use Rattle.sequence.specs.Texts.{isName, nameOf, isLabel, labelName, isDigits, numberOf}
+use Rattle.token.specs.declared.scanner.Spot.{Spot}
 use Rattle.token.specs.declared.words.Token.{Token}
 use Rattle.token.specs.declared.words.Token.the-variants.{Place, Label, Number, Letter}
 
 abbrev pub isPlace : List ℕ → Bool
 isPlace bs = isDigits bs && leb (length bs) 8
 
--- each case borrows the token's bytes
-abbrev pub Shown : Token → List ℕ → Type 0
-Shown (Place x) bs = (x .now ≡ bs) × (isPlace bs ≡ true) × (isLabel bs ≡ false)
-Shown (Label x) bs = (x .now ≡ bs) × (isPlace bs ≡ false) × (isLabel bs ≡ true)
-Shown (Number x) bs = (x .now ≡ bs) × (isPlace bs ≡ false) × (isLabel bs ≡ false) × (isSome (numberOf bs) ≡ true)
-Shown (Letter x) bs = (x .now ≡ bs) × (isPlace bs ≡ false) × (isLabel bs ≡ false) × (isSome (numberOf bs) ≡ false)
+-- each case has the token's bytes, line and column
+abbrev pub Shown : Token → Spot → Type 0
+Shown (Place x) p = (x ≡ p) × (isPlace (p .text .now) ≡ true) × (isLabel (p .text .now) ≡ false)
+Shown (Label x) p = (x ≡ p) × (isPlace (p .text .now) ≡ false) × (isLabel (p .text .now) ≡ true)
+Shown (Number x) p = (x ≡ p) × (isPlace (p .text .now) ≡ false) × (isLabel (p .text .now) ≡ false) × (isSome (numberOf (p .text .now)) ≡ true)
+Shown (Letter x) p = (x ≡ p) × (isPlace (p .text .now) ≡ false) × (isLabel (p .text .now) ≡ false) × (isSome (numberOf (p .text .now)) ≡ false)
 
 -- the name that a token is, and the name that it labels
 abbrev pub asName : List ℕ → Option (List ℕ)

@@ -10,18 +10,19 @@ ghost use Rattle.std.specs.Options.{mapped};
 ghost use Rattle.std.specs.shelf.Text.{sameBytes};
 ghost use Rattle.sequence.specs.Texts.{every, small, digit, isName, nameOf, isLabel, labelName, readOn, isDigits, magnitude, unsignedOf, numberOf, placeOf};
 ghost use Rattle.token.specs.Kinds.{Shown, asName, asLabel};
+use crate::scanner::Spot;
 
-/// A token by its shape.
+/// A token by its shape, with its bytes, its line and its column.
 #[derive(Clone, Copy)]
 pub enum Token<'a> {
     /// One to eight digits.
-    Place(&'a [u8]),
+    Place(Spot<'a>),
     /// One to eight letters a to z and a colon.
-    Label(&'a [u8]),
+    Label(Spot<'a>),
     /// Another number: after a minus, or of over eight digits.
-    Number(&'a [u8]),
+    Number(Spot<'a>),
     /// Any other; in front of a line, the letter of an instruction.
-    Letter(&'a [u8]),
+    Letter(Spot<'a>),
 }
 
 const MOST_DIGITS: usize = 8;
@@ -166,28 +167,28 @@ fn positive(n: Option<u32>) -> Option<i64>
 }
 
 /// A token by its shape.
-pub fn classify<'a>(s: &'a [u8]) -> Token<'a>
-    ensures { λ r. ⌜ Shown r (now (s .entry)) ⌝ }
+pub fn classify<'a>(spot: Spot<'a>) -> Token<'a>
+    ensures { λ r. ⌜ Shown r (spot .entry) ⌝ }
 {
-    if is_digits(s) && s.len() <= MOST_DIGITS {
-        return Token::Place(s);
+    if is_digits(spot.text) && spot.text.len() <= MOST_DIGITS {
+        return Token::Place(spot);
     }
-    if is_label(s) {
-        return Token::Label(s);
+    if is_label(spot.text) {
+        return Token::Label(spot);
     }
-    if number_of(s).is_some() {
-        Token::Number(s)
+    if number_of(spot.text).is_some() {
+        Token::Number(spot)
     } else {
-        Token::Letter(s)
+        Token::Letter(spot)
     }
 }
 
 /// The place that a token is: one to eight digits.
-pub fn place_of(s: &[u8]) -> Option<u32>
-    ensures { λ r. ⌜ r ≡ placeOf (now (s .entry)) ⌝ }
+pub fn place_of(spot: Spot) -> Option<u32>
+    ensures { λ r. ⌜ r ≡ placeOf (now (spot .entry .text)) ⌝ }
 {
-    match classify(s) {
-        Token::Place(digits) => Some(value(digits)),
+    match classify(spot) {
+        Token::Place(digits) => Some(value(digits.text)),
         Token::Label(_) => None,
         Token::Number(_) => None,
         Token::Letter(_) => None,
@@ -195,13 +196,13 @@ pub fn place_of(s: &[u8]) -> Option<u32>
 }
 
 /// The name that a token labels its line with.
-pub fn label_of(s: &[u8]) -> Option<[u8; 8]>
-    ensures { λ r. ⌜ r ≡ asLabel (now (s .entry)) ⌝ }
+pub fn label_of(spot: Spot) -> Option<[u8; 8]>
+    ensures { λ r. ⌜ r ≡ asLabel (now (spot .entry .text)) ⌝ }
 {
-    match classify(s) {
+    match classify(spot) {
         Token::Label(label) => {
-            let n = label.len();
-            Some(padded(&label[0..n - 1]))
+            let n = label.text.len();
+            Some(padded(&label.text[0..n - 1]))
         }
         Token::Place(_) => None,
         Token::Number(_) => None,

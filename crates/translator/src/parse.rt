@@ -86,7 +86,7 @@ fn take_apart(line: usize, mut scan: Scanner) -> Result<Line, TextFault>
     if is_at(first.text) {
         return opening(line, scan);
     }
-    match place_of(first.text) {
+    match place_of(first) {
         Some(place) => after_place(
             line,
             Some(WrittenPlace {
@@ -109,7 +109,7 @@ fn opening(line: usize, mut scan: Scanner) -> Result<Line, TextFault>
     if scan.next().is_some() {
         return Err(fault(Refusal::Operands, line, 0));
     }
-    match place_of(first.text) {
+    match place_of(first) {
         Some(place) => Ok(Line::Opens { line, place }),
         None => Err(fault(Refusal::Operands, line, 0)),
     }
@@ -136,7 +136,7 @@ fn perhaps_label<'a>(
 ) -> Result<Line, TextFault>
     ensures { λ r. ⌜ r ≡ labelled line written (tokenOf (spot .entry) ∷ left (scan .entry)) ⌝ }
 {
-    match label_of(spot.text) {
+    match label_of(spot) {
         Some(name) => {
             let label = Some(Definition {
                 name,

@@ -4,7 +4,7 @@ ghost use mathlib.Core.Path.{_≡_};
 ghost use mathlib.Core.Bool.{true};
 ghost use Prim.Native.Nat.{_≤_};
 ghost use lib.ListN.{length};
-ghost use Rattle.sequence.specs.Texts.{lines, tokens, isLabel};
+ghost use Rattle.sequence.specs.Texts.{lines, tokens};
 ghost use Rattle.sequence.specs.Translations.{sizedText, labelTokens, labelsIn};
 use token::Scanner;
 use token::label_of;
@@ -61,15 +61,9 @@ fn count_labels(line: &[u8]) -> usize
     let mut labels = 0;
     let mut scan = Scanner::new(1, line);
     while let Some(spot) = scan.next() {
-        if is_label(spot.text) {
+        if label_of(spot).is_some() {
             labels += 1;
         }
     }
     labels
-}
-
-fn is_label(text: &[u8]) -> bool
-    ensures { λ r. ⌜ r ≡ isLabel (now (text .entry)) ⌝ }
-{
-    label_of(text).is_some()
 }

@@ -1,2 +1,3 @@
 pub mod Memories
 pub mod Eeproms
+pub mod Edits

@@ -38,6 +38,7 @@ impl Edit {
     pub fn put<S: Store>(&mut self, store: &mut S, byte: u8) -> Result<(), StoreFault>
         ensures answer { λ r. ⌜ r ≡ putting (now (self .entry) .next) (memory (now (store .entry))) ⌝ }
         ensures after { λ _. ⌜ memory (now (store .exit)) ≡ put (now (self .entry) .next) byte (memory (now (store .entry))) ⌝ }
+        ensures kept { λ r. ⌜ Cases r (λ _. Unit {0}) (λ _. now (store .exit) ≡ now (store .entry)) ⌝ }
         ensures next { λ r. ⌜ Cases r (λ _. now (self .exit) .next ≡ now (self .entry) .next + 1) (λ _. now (self .exit) .next ≡ now (self .entry) .next) ⌝ }
     {
         let place = self.next;
@@ -53,6 +54,7 @@ impl Edit {
     pub fn end<S: Store>(self, store: &mut S) -> Result<(), (Edit, StoreFault)>
         ensures answer { λ r. ⌜ r ≡ ended self (putting (self .next) (memory (now (store .entry)))) ⌝ }
         ensures after { λ _. ⌜ memory (now (store .exit)) ≡ put (self .next) 255 (memory (now (store .entry))) ⌝ }
+        ensures kept { λ r. ⌜ Cases r (λ _. Unit {0}) (λ _. now (store .exit) ≡ now (store .entry)) ⌝ }
     {
         let Edit { next } = self;
         if !is_user_place(next) {

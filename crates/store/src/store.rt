@@ -20,13 +20,15 @@ pub trait Store {
     fn read(&self, place: u16) -> Result<u8, StoreFault>
         ensures { λ r. ⌜ r ≡ reading place (memory (now (self .entry))) ⌝ };
 
-    /// Another byte at a place.
+    /// Another byte at a place. A refusal changes nothing.
     fn write(&mut self, place: u16, byte: u8) -> Result<(), StoreFault>
         ensures answer { λ r. ⌜ r ≡ writing place (memory (now (self .entry))) ⌝ }
-        ensures after { λ _. ⌜ memory (now (self .exit)) ≡ written place byte (memory (now (self .entry))) ⌝ };
+        ensures after { λ _. ⌜ memory (now (self .exit)) ≡ written place byte (memory (now (self .entry))) ⌝ }
+        ensures kept { λ r. ⌜ Cases r (λ _. Unit {0}) (λ _. now (self .exit) ≡ now (self .entry)) ⌝ };
 
-    /// A page that is sound and all 255.
+    /// A page that is sound and all 255. A refusal changes nothing.
     fn clear(&mut self, page: u16) -> Result<(), StoreFault>
         ensures answer { λ r. ⌜ r ≡ clearing page (memory (now (self .entry))) ⌝ }
-        ensures after { λ _. ⌜ memory (now (self .exit)) ≡ cleared page (memory (now (self .entry))) ⌝ };
+        ensures after { λ _. ⌜ memory (now (self .exit)) ≡ cleared page (memory (now (self .entry))) ⌝ }
+        ensures kept { λ r. ⌜ Cases r (λ _. Unit {0}) (λ _. now (self .exit) ≡ now (self .entry)) ⌝ };
 }

@@ -19,4 +19,4 @@ returns c =
     let low′ : p < 8 = omega arith in
     let length-paste′ : length (paste xs (256 * p) (replicate 256 255) 256) ≡ length xs = length-paste xs (256 * p) (replicate 256 255) 256 (omega arith) (omega arith) in
     let low : ltb p 8 ≡ true = search needs in
-    record { answer = simp (len, low); after = simp (c .erase .ensures, length-paste′, cut-clear p xs (replicate 256 255) low′ len′ refl, len, low) }
+    record { answer = simp (len, low); after = simp (c .erase .ensures, length-paste′, cut-clear p xs (replicate 256 255) low′ len′ refl, len, low); kept = tt }

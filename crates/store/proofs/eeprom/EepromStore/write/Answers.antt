@@ -24,4 +24,5 @@ returns c =
     record {
       answer = simp (len, low, cut-at 8 (p / 256) xs lt);
       after = simp (length-set, len, low, cut-at 8 (p / 256) xs lt, s′);
+      kept = tt;
     }

@@ -1,6 +1,8 @@
 //! The parts of an axis: its motion, its instructions, its runs and its messages. Nothing here can be called from outside
 //! yet.
 
+#![tactic(auto)]
+
 mod act;
 mod advance;
 mod axis;

@@ -1,5 +1,7 @@
 //! The worked cases of the rules: one list, one computed test.
 
+#![tactic(auto)]
+
 ghost use Rattle.std.specs.Prelude.{◌≡◌, true, length};
 ghost use Rattle.cases.specs.Cases.{cases, all_pass};
 

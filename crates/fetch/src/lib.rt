@@ -1,5 +1,7 @@
 //! Reading an instruction out of a store, as a run does.
 
+#![tactic(auto)]
+
 ghost use Rattle.std.specs.Prelude.{◌≡◌, ◌+◌, ◌<◌, true};
 ghost use Rattle.isa.specs.Checks.{and_then};
 ghost use Rattle.isa.specs.Places.{user};

@@ -70,7 +70,8 @@ fn lay(instruction: Instruction<u16>) -> Code
                 bytes: [letter, gain, loss, 0],
                 len: 3,
             },
-            Action::Origin(n) | Action::IndexTo(n) => long(letter, n.to_le_bytes()),
+            Action::Origin(n) => long(letter, n.to_le_bytes()),
+            Action::IndexTo(n) => long(letter, n.to_le_bytes()),
             Action::Report => Code {
                 bytes: [letter, 0, 0, 0],
                 len: 1,

@@ -3,6 +3,8 @@
 //! Everything above (translator, lister, axis) takes letters, lengths and operand ranges from `look_up` and from
 //! nowhere else.
 
+#![tactic(auto)]
+
 mod codec;
 mod instruction;
 mod place;

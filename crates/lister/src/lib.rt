@@ -1,5 +1,7 @@
 //! The lister: an image back into a text that a person can read and the translator takes.
 
+#![tactic(auto)]
+
 ghost use Rattle.std.specs.Prelude.{◌≡◌, length};
 ghost use Rattle.sequence.specs.Listings.{listed, answered, written, Short};
 ghost use Rattle.sequence.specs.RoundTrips.{Relists, RefusesRightly};

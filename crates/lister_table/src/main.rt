@@ -4,6 +4,8 @@
 //! N bytes, `fill B` makes every byte B, `P: B B ..` puts bytes from place P on, `repeat N from P: B B ..` puts them N
 //! times; `room N` gives the output N bytes. Each listing is translated again, and its image compared.
 
+#![tactic(auto)]
+
 use anyhow::{Context, anyhow};
 use lister::list;
 use sequence::Label;

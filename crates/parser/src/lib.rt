@@ -1,5 +1,7 @@
 //! A line of a text taken apart, and an instruction as lines and messages write it.
 
+#![tactic(auto)]
+
 mod instructions;
 mod line;
 

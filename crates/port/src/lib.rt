@@ -1,5 +1,7 @@
 //! Step ports: what an axis drives a motor by.
 
+#![tactic(auto)]
+
 mod phase;
 mod pulse;
 mod step;

@@ -1,5 +1,7 @@
 //! The line protocol of an axis: what it hears, what a message asks, and the bytes of an answer.
 
+#![tactic(auto)]
+
 mod gathered;
 mod reading;
 mod receiver;

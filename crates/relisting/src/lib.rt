@@ -1,1 +1,3 @@
 //! A listing, read again, gives its image again.
+
+#![tactic(auto)]

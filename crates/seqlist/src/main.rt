@@ -3,6 +3,8 @@
 //! Refused, it writes `?`, two digits, a space and the place on standard output, a sentence on standard error, and ends
 //! with status 1.
 
+#![tactic(auto)]
+
 use anyhow::anyhow;
 use isa::Refusal;
 use lister::list;

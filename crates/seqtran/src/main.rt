@@ -4,6 +4,8 @@
 //! Refused, it writes `?`, two digits, a space, the line, a space and the column on standard output, the refusal in
 //! words with the line itself on standard error, and ends with status 1.
 
+#![tactic(auto)]
+
 use anyhow::anyhow;
 use isa::Refusal;
 use sequence::{Label, TextFault};

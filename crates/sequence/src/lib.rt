@@ -1,6 +1,8 @@
 //! What a sequence means, as text and as image: the types that the translator and the lister share. The meaning itself
 //! stands in `specs/`.
 
+#![tactic(auto)]
+
 mod image;
 mod text;
 

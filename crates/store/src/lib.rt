@@ -1,5 +1,7 @@
 //! Stores: where a board keeps its image.
 
+#![tactic(auto)]
+
 mod edit;
 mod eeprom;
 mod store;

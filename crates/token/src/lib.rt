@@ -1,5 +1,7 @@
 //! Lines and tokens of a sequence text, numbers and names. Tokens borrow their bytes from the text.
 
+#![tactic(auto)]
+
 mod lines;
 mod scanner;
 mod words;

@@ -1,5 +1,7 @@
 //! A walk through the kit with one real sequence: what goes in, what comes out, and what is refused.
 
+#![tactic(auto)]
+
 mod images;
 mod texts;
 

@@ -1,5 +1,7 @@
 //! The translator: a sequence text into the image of a board.
 
+#![tactic(auto)]
+
 ghost use Rattle.std.specs.Prelude.{◌≡◌, length, OnOk};
 ghost use Rattle.sequence.specs.Layouts.{LaysOut};
 ghost use Rattle.sequence.specs.RoundTrips.{ListedAgain, RoundTrips};

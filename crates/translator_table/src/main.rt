@@ -6,6 +6,8 @@
 //!
 //! An accepted text goes on to listing, image and listing: the program stops if these two images or listings differ.
 
+#![tactic(auto)]
+
 use anyhow::{Context, anyhow};
 use lister::list;
 use sequence::Label;

@@ -1,5 +1,7 @@
 //! Refusals in words, for programs and for people.
 
+#![tactic(auto)]
+
 ghost use Rattle.std.specs.Prelude.{◌≡◌, ◌/◌, ◌%◌, IfOk, string_bytes};
 ghost use Rattle.isa.specs.Refusals.{number_of};
 ghost use Rattle.wording.specs.Words.{sentence_of, image_line, text_line};

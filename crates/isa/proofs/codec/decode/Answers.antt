@@ -7,6 +7,6 @@ pub returns : goal.returns
 returns c =
     let n : length c.args.bytes ≡ 4 = search rules in
     record {
-      value = c.decode-parts.ensures.value;
-      law = subst (λ bs. Decodes bs c.decode-parts.result) (four c.args.bytes n) c.decode-parts.ensures.law;
+      value = c.decode_parts.ensures.value;
+      law = subst (λ bs. Decodes bs c.decode_parts.result) (four c.args.bytes n) c.decode_parts.ensures.law;
     }

@@ -33,8 +33,8 @@ impl Edit {
 
     /// Puts a byte at the next place.
     pub fn put<S: Store>(&mut self, store: &mut S, byte: u8) -> Result<(), StoreFault>
-        ensures answer { result ≡ putting self.old.next (memory store.old) }
-        ensures after { memory store.new ≡ put self.old.next byte (memory store.old) }
+        ensures answer { result ≡ putting self.old.next (S.memory store.old) }
+        ensures after { S.memory store.new ≡ put self.old.next byte (S.memory store.old) }
         ensures kept { OnErr result (store.new ≡ store.old) }
         ensures next { MatchResult result (λ _. self.new.next ≡ self.old.next + 1) (λ _. self.new.next ≡ self.old.next) }
     {
@@ -49,8 +49,8 @@ impl Edit {
 
     /// Writes the mark, 255, at the next place. If that is refused, the edit is handed back to be left.
     pub fn end<S: Store>(self, store: &mut S) -> Result<(), (Edit, StoreFault)>
-        ensures answer { result ≡ ended self (putting self.next (memory store.old)) }
-        ensures after { memory store.new ≡ put self.next 255 (memory store.old) }
+        ensures answer { result ≡ ended self (putting self.next (S.memory store.old)) }
+        ensures after { S.memory store.new ≡ put self.next 255 (S.memory store.old) }
         ensures kept { OnErr result (store.new ≡ store.old) }
     {
         let Edit { next } = self;

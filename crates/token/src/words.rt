@@ -220,5 +220,5 @@ pub fn name_of(s: &[u8]) -> Option<[u8; 8]>
 pub fn is_at(s: &[u8]) -> bool
     ensures { result ≡ bytes_eq s.now (codes "at") }
 {
-    s == b"at"
+    s == b"at".as_slice()
 }

@@ -17,4 +17,4 @@ returns g c =
     let h : shape_of l ≡ Some s = search rules in
     let v : user (p + (width_of s - 1)) ≡ true = search rules in
     let whole : shaped m p l (shape_of l) ≡ operands_at m p l (width_of s) = ap (shaped m p l) h ∙ ap (λ b. cond b (operands_at m p l (width_of s)) (Err (Own Area))) (last_user s p c.requires ∙ v) in
-    record { value = c.read-operands.ensures.value ∙ ap (operands_at m p l) c.width-width.ensures ∙ sym whole; range = c.read-operands.ensures.range }
+    record { value = c.read_operands.ensures.value ∙ ap (operands_at m p l) c.width-width.ensures ∙ sym whole; range = c.read_operands.ensures.range }

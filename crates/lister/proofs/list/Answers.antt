@@ -12,23 +12,23 @@ use Rattle.lister.proofs.Tests.{listing_checked, listing_refused, unsized, sized
 use Rattle.lister.proofs.list.Goals as goal
 use Rattle.lister.proofs.list.Goals.{then-image-ne-IMAGE-SIZE-via-then-image-ne-IMAGE-SIZE, then-image-ne-IMAGE-SIZE-via-else-image-ne-IMAGE-SIZE+then-out-lt-LISTING-ROOM}
 
-pub returns-then-image-ne-IMAGE-SIZE : goal.returns-then-image-ne-IMAGE-SIZE
-returns-then-image-ne-IMAGE-SIZE c =
+pub returns-then-image-ne-IMAGE_SIZE : goal.returns-then-image-ne-IMAGE_SIZE
+returns-then-image-ne-IMAGE_SIZE c =
     let im = c.args.image.now in let o = c.args.out.now in
-    let e = unsized im (length o) (λ a b. elim c.then-image-ne-IMAGE-SIZE.branch [ then-image-ne-IMAGE-SIZE-via-then-image-ne-IMAGE-SIZE w ↦ omega arith | then-image-ne-IMAGE-SIZE-via-else-image-ne-IMAGE-SIZE+then-out-lt-LISTING-ROOM w ↦ omega arith ]) in
+    let e = unsized im (length o) (λ a b. elim c.then-image-ne-IMAGE_SIZE.branch [ then-image-ne-IMAGE-SIZE-via-then-image-ne-IMAGE-SIZE w ↦ omega arith | then-image-ne-IMAGE-SIZE-via-else-image-ne-IMAGE-SIZE+then-out-lt-LISTING-ROOM w ↦ omega arith ]) in
     record { answer = ap answered (sym e); output = ap (written o) (sym e); short = short im; relisted = relists im (λ q. (c.type-inv.image q).fits); exact = refuses_rightly im }
 
 pub returns-in-err-firsts : goal.returns-in-err-firsts
 returns-in-err-firsts c =
     let im = c.args.image.now in let o = c.args.out.now in
-    let x = err_from_is_err_and c.from-residual.result c.from-residual.ensures.1 in
+    let x = err_from_is_err_and c.from_residual.result c.from_residual.ensures.1 in
     let e = sized im (length o) (omega arith) (omega arith) ∙ listing_refused im _ (unwalked _ _ c.in-err-firsts.ensures) in
     record { answer = x.1 ∙ ap Err x.2 ∙ ap answered (sym e); output = ap (written o) (sym e); short = short im; relisted = relists im (λ q. (c.type-inv.image q).fits); exact = refuses_rightly im }
 
 pub returns-in-err-check : goal.returns-in-err-check
 returns-in-err-check c =
     let im = c.args.image.now in let o = c.args.out.now in
-    let x = err_from_is_err_and c.from-residual-in-err-check.result c.from-residual-in-err-check.ensures.1 in
+    let x = err_from_is_err_and c.from_residual-in-err-check.result c.from_residual-in-err-check.ensures.1 in
     let w = walked _ _ c.in-ok-firsts.ensures in
     let h : checked_all c.in-ok-firsts.firsts w.0 ≡ Err c.in-err-check.field-0.0 = ap (checked c.in-ok-firsts.firsts) (sym w.1) ∙ sym c.in-err-check.ensures in
     let e = sized im (length o) (omega arith) (omega arith) ∙ listing_checked im w.0 w.1 ∙ ap (λ m. and_then (checked_all m w.0) (λ _. Ok (printed w.0))) (sym w.2) ∙ ap (λ r. and_then r (λ _. Ok (printed w.0))) h in

@@ -9,4 +9,4 @@ pub returns-in-Done : goal.returns-in-Done
 returns-in-Done c =
     let a = carried_out c.args.action (body_of c.args.body.now) in
     let h = done_not_busy a.busy c.in-Done.answer a.answer c.in-Done.ensures.outcome in
-    record { course = sym (ap (λ b. cond b Stays Onward) h.0); answer = h.1; body = c.carry-out.ensures.body; run = search rules }
+    record { course = sym (ap (λ b. cond b Stays Onward) h.0); answer = h.1; body = c.carry_out.ensures.body; run = search rules }

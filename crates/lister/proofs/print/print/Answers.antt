@@ -6,8 +6,8 @@ use Rattle.lister.specs.Writes.{found_in}
 use Rattle.lister.proofs.Writing.{printed_more, sets_found, length_found}
 use Rattle.lister.proofs.print.print.Goals as goal
 
-pub write-found-at-requires : goal.write-found-at-requires
-write-found-at-requires c =
+pub write_found-at-requires : goal.write_found-at-requires
+write_found-at-requires c =
     let im = c.args.image.now in let f = c.in-Some.found in let u = c.next.new.cursor in
     let g : Gives (Ok (Some f)) im c.loop-found.cursor u = search rules in
     let m = printed_more f (left im c.loop-found.cursor) (left im u) g.0 c.loop-found.invariant.0 in
@@ -15,7 +15,7 @@ write-found-at-requires c =
 
 pub loop-found-preserved : goal.loop-found-preserved
 loop-found-preserved c =
-    let im = c.args.image.now in let f = c.in-Some.found in let u = c.next.new.cursor in let x = c.write-found-at in
+    let im = c.args.image.now in let f = c.in-Some.found in let u = c.next.new.cursor in let x = c.write_found-at in
     let g : Gives (Ok (Some f)) im c.loop-found.cursor u = search rules in
     let m = printed_more f (left im c.loop-found.cursor) (left im u) g.0 c.loop-found.invariant.0 in (
       m.0,

@@ -14,8 +14,8 @@ returns-in-default c =
     let e : shape_of (get_or c.args.image.now c.args.place 0) ≡ None = search rules in
     read_none c.args.image.now c.args.place (omega arith) u e
 
-pub returns-then-not-is-user-place-2 : goal.returns-then-not-is-user-place-2
-returns-then-not-is-user-place-2 c =
+pub returns-then-not-is_user_place-2 : goal.returns-then-not-is_user_place-2
+returns-then-not-is_user_place-2 c =
     let u : user c.args.place ≡ true = search rules in
     let e : shape_of (get_or c.args.image.now c.args.place 0) ≡ Some c.in-Some.shape = search rules in
     let v : user (c.args.place + (width_of c.in-Some.shape - 1)) ≡ false = search rules in
@@ -27,9 +27,9 @@ returns-in-err-instruction c =
     let u : user p ≡ true = search rules in
     let e : shape_of (get_or im p 0) ≡ Some c.in-Some.shape = search rules in
     let v : user (p + (w - 1)) ≡ true = search rules in
-    let d = c.decode-bytes.ensures.value ∙ ap decoded (part im p c.from-start.result w c.from-start.ensures) in
-    let x = err_from_is_err_and c.from-residual.result c.from-residual.ensures.1 in
-    rw (x.1, x.2) (read_refused im p (omega arith) u c.in-Some.shape w e c.width-width.ensures v c.decode-bytes.result d _ c.in-err-instruction.was)
+    let d = c.decode_bytes.ensures.value ∙ ap decoded (part im p c.from-start.result w c.from-start.ensures) in
+    let x = err_from_is_err_and c.from_residual.result c.from_residual.ensures.1 in
+    rw (x.1, x.2) (read_refused im p (omega arith) u c.in-Some.shape w e c.width-width.ensures v c.decode_bytes.result d _ c.in-err-instruction.was)
 
 pub returns : goal.returns
 returns c =
@@ -38,6 +38,6 @@ returns c =
     let e : shape_of (get_or im p 0) ≡ Some c.in-Some.shape = search rules in
     let v : user (p + (w - 1)) ≡ true = search rules in
     let q = part im p c.from-start.result w c.from-start.ensures in
-    let d = c.decode-bytes.ensures.value ∙ ap decoded q in
+    let d = c.decode_bytes.ensures.value ∙ ap decoded q in
     let s = subst (λ b. Stood (padded b) c.in-ok-instruction.instruction) q c.in-ok-instruction.ensures.law in
-    read_accepted im p (omega arith) u c.in-Some.shape w e c.width-width.ensures v c.decode-bytes.result d _ c.in-ok-instruction.was s
+    read_accepted im p (omega arith) u c.in-Some.shape w e c.width-width.ensures v c.decode_bytes.result d _ c.in-ok-instruction.was s

@@ -8,8 +8,8 @@ loop-n-preserved c =
     let e = at_drop_more (λ l. length (word l)) c.args.s.now c.loop-n.n 0 (omega arith) in
     (omega arith, grind arith)
 
-pub returns-else-not-is-gap : goal.returns-else-not-is-gap
-returns-else-not-is-gap c =
+pub returns-else-not-is_gap : goal.returns-else-not-is_gap
+returns-else-not-is_gap c =
     let e = at_drop_more (λ l. length (word l)) c.args.s.now c.loop-n.n 0 (omega arith) in
     record { within = omega arith; size = grind arith }
 

@@ -9,4 +9,4 @@ pub returns-then-s-eq45 : goal.returns-then-s-eq45
 returns-then-s-eq45 c =
     let s = c.args.s.now in
     let some : 0 < length s = search rules in
-    c.negative.ensures ∙ ap (option_map (λ n. neg_ℤ (pos n))) (c.unsigned-of.ensures ∙ ap unsigned_of (take_rest s 1)) ∙ sym (number_minus s some c.if-s-eq45.true)
+    c.negative.ensures ∙ ap (option_map (λ n. neg_ℤ (pos n))) (c.unsigned_of.ensures ∙ ap unsigned_of (take_rest s 1)) ∙ sym (number_minus s some c.if-s-eq45.true)

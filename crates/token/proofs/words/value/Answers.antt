@@ -4,14 +4,14 @@ use Rattle.sequence.specs.Texts.{read_on}
 use Rattle.token.proofs.Values.{tens, tens_low, one_digit, more_digits, more_low, more_value}
 use Rattle.token.proofs.words.value.Goals as goal
 
-pub overflow-mul-n : goal.overflow-mul-n
-overflow-mul-n c = omega (arith, tens_low c.loop-b.b-index (omega arith))
+pub overflow_mul-n : goal.overflow_mul-n
+overflow_mul-n c = omega (arith, tens_low c.loop-b.b-index (omega arith))
 
-pub overflow-sub-b : goal.overflow-sub-b
-overflow-sub-b c = (one_digit c.args.digits.now c.loop-b.b-index c.loop-b.n (omega arith) c.loop-b.invariant.1 c.loop-b.invariant.2).0
+pub overflow_sub-b : goal.overflow_sub-b
+overflow_sub-b c = (one_digit c.args.digits.now c.loop-b.b-index c.loop-b.n (omega arith) c.loop-b.invariant.1 c.loop-b.invariant.2).0
 
-pub overflow-add-n : goal.overflow-add-n
-overflow-add-n c =
+pub overflow_add-n : goal.overflow_add-n
+overflow_add-n c =
     let d = one_digit c.args.digits.now c.loop-b.b-index c.loop-b.n (omega arith) c.loop-b.invariant.1 c.loop-b.invariant.2 in
     omega (arith, tens_low c.loop-b.b-index (omega arith), d)
 

@@ -11,8 +11,8 @@ returns-then-next-ge-PLACES c =
     let u : user p ≡ false = grind (arith, nat_tests) in
     record { value = sym (both_ends p w c.requires.0 c.requires.1 ∙ ap (λ b. b && user (p + w)) u); low = λ t. absurd (both_ways false refl t) }
 
-pub returns-then-not-is-user : goal.returns-then-not-is-user
-returns-then-not-is-user c =
+pub returns-then-not-is_user : goal.returns-then-not-is_user
+returns-then-not-is_user c =
     let p = c.args.next in let w = c.args.width in
     let u : user p ≡ false = search rules in
     record { value = sym (both_ends p w c.requires.0 c.requires.1 ∙ ap (λ b. b && user (p + w)) u); low = λ t. absurd (both_ways false refl t) }
@@ -21,7 +21,7 @@ pub returns : goal.returns
 returns c =
     let p = c.args.next in let w = c.args.width in
     let u : user p ≡ true = search rules in
-    let v : c.is-user-2.result ≡ user (p + w) = search rules in
+    let v : c.is_user-2.result ≡ user (p + w) = search rules in
     record {
       value = v ∙ sym (both_ends p w c.requires.0 c.requires.1 ∙ ap (λ b. b && user (p + w)) u);
       low = λ t. user_low (p + w) (sym v ∙ t);

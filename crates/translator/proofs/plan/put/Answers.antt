@@ -9,6 +9,6 @@ returns c =
     let f = filled x.label x s p.labels d.result t d.new.labels c.requires.room.0 refl d.ensures in
     let u = unfilled x.label x p.next p.labels d.result t d.new.labels d.ensures in
     record {
-      plan = laid_is x s (added x x.label s) c.args.width _ _ c.requires.open c.requires.wide.0 c.lay-down.ensures f;
+      plan = laid_is x s (added x x.label s) c.args.width _ _ c.requires.open c.requires.wide.0 c.lay_down.ensures f;
       kept = (u.0, omega arith, u.1);
     }

@@ -7,11 +7,11 @@ use Rattle.translator.proofs.sizes.count.Goals as goal
 
 pub loop-at-preserved : goal.loop-at-preserved
 loop-at-preserved c =
-    let s = c.args.text.now in let at = c.loop-at.at in let n = c.line-len-n.result in
-    let e = cut n at s (omega arith) c.line-len-n.ensures.size in
-    let a = ap length e in let b = ap labels_in e in let v = c.count-labels.ensures.value in
-    let w : n ≤ length s - at = omega (arith, c.line-len-n.ensures.within, length-take (length s - at) (drop at s), length-drop at s) in
-    let f : c.count-labels.result ≤ n = omega (arith, c.count-labels.ensures.few, length-take (at + n - at) (drop at s)) in
+    let s = c.args.text.now in let at = c.loop-at.at in let n = c.line_len-n.result in
+    let e = cut n at s (omega arith) c.line_len-n.ensures.size in
+    let a = ap length e in let b = ap labels_in e in let v = c.count_labels.ensures.value in
+    let w : n ≤ length s - at = omega (arith, c.line_len-n.ensures.within, length-take (length s - at) (drop at s), length-drop at s) in
+    let f : c.count_labels.result ≤ n = omega (arith, c.count_labels.ensures.few, length-take (at + n - at) (drop at s)) in
     (omega arith, omega arith, omega arith, omega arith, omega arith)
 
 pub returns : goal.returns

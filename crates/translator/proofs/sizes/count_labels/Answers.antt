@@ -5,8 +5,8 @@ use Rattle.token.specs.Spots.{left}
 use Rattle.translator.proofs.Counting.{few_labels}
 use Rattle.translator.proofs.sizes.count_labels.Goals as goal
 
-pub overflow-add-labels : goal.overflow-add-labels
-overflow-add-labels c = let l : length c.args.line.now ≤ 18446744073709551614 = search rules in omega (arith, few_labels c.args.line.now)
+pub overflow_add-labels : goal.overflow_add-labels
+overflow_add-labels c = let l : length c.args.line.now ≤ 18446744073709551614 = search rules in omega (arith, few_labels c.args.line.now)
 
 pub returns : goal.returns
 returns c =

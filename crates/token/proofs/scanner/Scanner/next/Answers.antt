@@ -13,7 +13,7 @@ returns-then-w-eq0 c =
     let line = c.args.self.now.text.now in
     let at = c.args.self.now.at in
     let rest = take (length line - at) (drop at line) in
-    let e = next_none at c.gaps-n.result c.word-len-w.result line rest _ (take_rest line at) (take_rest rest c.gaps-n.result) c.word-len-w.ensures.size
+    let e = next_none at c.gaps-n.result c.word_len-w.result line rest _ (take_rest line at) (take_rest rest c.gaps-n.result) c.word_len-w.ensures.size
     (c.gaps-n.ensures.same (at + 1)) c.if-w-eq0.true c.gaps-n.ensures.stops in
     (e.0, e.1, refl)
 
@@ -22,7 +22,7 @@ returns c =
     let line = c.args.self.now.text.now in
     let at = c.args.self.now.at in
     let rest = take (length line - at) (drop at line) in (
-      next_some at c.gaps-n.result c.word-len-w.result line rest _ (take_rest line at) (take_rest rest c.gaps-n.result) c.word-len-w.ensures.size
+      next_some at c.gaps-n.result c.word_len-w.result line rest _ (take_rest line at) (take_rest rest c.gaps-n.result) c.word_len-w.ensures.size
           (c.gaps-n.ensures.same (at + 1)) (omega arith),
       refl,
       refl,

@@ -6,6 +6,7 @@ use Rattle.std.specs.Option.{option_map}
 use Rattle.isa.specs.declared.refusal.Refusal.{Refusal}
 use Rattle.isa.specs.declared.refusal.Refusal.TheVariants.{Area, Code}
 use Rattle.isa.specs.declared.shape.Shape.{Shape}
+use Rattle.isa.specs.declared.shape.Shape.TheVariants.{Plain, Byte, Pair, Word, Target, TargetByte, Signed, Long}
 use Rattle.isa.specs.declared.instruction.Instruction.{Instruction}
 use Rattle.isa.specs.Places.{user}
 use Rattle.isa.specs.Shapes.{width_of}

@@ -51,9 +51,9 @@ fn take_step<P: StepPort>(
     sum: u32,
 ) -> Result<(), Refusal>
     requires { sum < 25000 * motion.divisor }
-    ensures ends { refusal_of result ≡ (stepping sum (motion_of motion) (body_of body.old) (meaning port.old)).ends }
-    ensures body { body_of body.new ≡ (stepping sum (motion_of motion) (body_of body.old) (meaning port.old)).body }
-    ensures port { meaning port.new ≡ (stepping sum (motion_of motion) (body_of body.old) (meaning port.old)).port }
+    ensures ends { refusal_of result ≡ (stepping sum (motion_of motion) (body_of body.old) (P.meaning port.old)).ends }
+    ensures body { body_of body.new ≡ (stepping sum (motion_of motion) (body_of body.old) (P.meaning port.old)).body }
+    ensures port { P.meaning port.new ≡ (stepping sum (motion_of motion) (body_of body.old) (P.meaning port.old)).port }
 {
     if let Err(refusal) = port.step(motion.direction) {
         body.motion = None;
@@ -66,9 +66,9 @@ fn take_step<P: StepPort>(
 
 /// The motion part of a tick; refused where a limit or the port ended the motion, and with it any run.
 pub(crate) fn advance<P: StepPort>(body: &mut Body, port: &mut P, input: u8) -> Result<(), Refusal>
-    ensures ends { refusal_of result ≡ (motion_part input (body_of body.old) (meaning port.old)).ends }
-    ensures body { body_of body.new ≡ (motion_part input (body_of body.old) (meaning port.old)).body }
-    ensures port { meaning port.new ≡ (motion_part input (body_of body.old) (meaning port.old)).port }
+    ensures ends { refusal_of result ≡ (motion_part input (body_of body.old) (P.meaning port.old)).ends }
+    ensures body { body_of body.new ≡ (motion_part input (body_of body.old) (P.meaning port.old)).body }
+    ensures port { P.meaning port.new ≡ (motion_part input (body_of body.old) (P.meaning port.old)).port }
 {
     let Some(motion) = body.motion else {
         return Ok(());

@@ -44,8 +44,8 @@ fn slowed(motion: Option<Motion>) -> Option<Motion>
 impl<S: Store, P: StepPort> Axis<S, P> {
     /// Starts a run at a place: 12, 8.
     pub(crate) fn begin_run(&mut self, place: u16) -> Result<(), Refusal>
-        ensures answer { refusal_of result ≡ (start_m (store_reader (memory self.old.store)) place (model meaning self.old)).reply.refusal }
-        ensures after { model meaning self.new ≡ (start_m (store_reader (memory self.old.store)) place (model meaning self.old)).state }
+        ensures answer { refusal_of result ≡ (start_m (store_reader (S.memory self.old.store)) place (model P.meaning self.old)).reply.refusal }
+        ensures after { model P.meaning self.new ≡ (start_m (store_reader (S.memory self.old.store)) place (model P.meaning self.old)).state }
         ensures store { self.new.store ≡ self.old.store }
     {
         if is_going(&self.run) {
@@ -68,7 +68,7 @@ impl<S: Store, P: StepPort> Axis<S, P> {
 
     /// ESC: ends motion and run.
     fn escape(&mut self)
-        ensures after { model meaning self.new ≡ (escape_m (model meaning self.old)).state }
+        ensures after { model P.meaning self.new ≡ (escape_m (model P.meaning self.old)).state }
         ensures store { self.new.store ≡ self.old.store }
     {
         self.receiver.cut_off();
@@ -78,7 +78,7 @@ impl<S: Store, P: StepPort> Axis<S, P> {
 
     /// `@`: ends a run and slows a motion.
     fn soft_stop(&mut self)
-        ensures after { model meaning self.new ≡ (soft_stop_m (model meaning self.old)).state }
+        ensures after { model P.meaning self.new ≡ (soft_stop_m (model P.meaning self.old)).state }
         ensures store { self.new.store ≡ self.old.store }
     {
         self.body.motion = slowed(self.body.motion);

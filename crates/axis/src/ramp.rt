@@ -2,7 +2,7 @@
 
 ghost use Rattle.std.specs.Prelude.{◌≡◌, ◌*◌, ◌<◌, ◌≤◌};
 ghost use Rattle.machine.specs.Setups.{start_speed};
-ghost use Rattle.machine.specs.Motions.{begun, next_speed, after_step, slowing, with_sum, onward as onwardM};
+ghost use Rattle.machine.specs.Motions.{begun, next_speed, after_step, slowing, with_sum, onward as onward_m};
 ghost use Rattle.axis.specs.Models.{setup_of, motion_of, moving_of};
 
 use crate::motion::Motion;
@@ -84,7 +84,7 @@ fn next_speed(motion: Motion, left: u32) -> u32
 /// One step fewer to go, at that speed and sum.
 fn onward(mut motion: Motion, speed: u32, sum: u32) -> Motion
     requires { (1 < motion.left) × ((motion.start ≤ speed) × ((speed ≤ motion.slew) × (sum < 25000 * motion.divisor))) }
-    ensures { motion_of result ≡ onwardM sum speed (motion_of motion) }
+    ensures { motion_of result ≡ onward_m sum speed (motion_of motion) }
 {
     motion.left -= 1;
     motion.speed = speed;

@@ -52,8 +52,8 @@ fn next_place(course: Course, here: u16, after: u16, instruction: Instruction<u1
 impl<S: Store, P: StepPort> Axis<S, P> {
     /// The next instruction, carried out. A fault in reading it leaves the axis as it was.
     fn instruction(&mut self, input: u8) -> Result<Answer, Fault>
-        ensures answer { result ≡ tried (instruction_m input (model meaning self.old) (fetched (memory self.old.store) self.old.run.next)) (fetched (memory self.old.store) self.old.run.next) }
-        ensures after { model meaning self.new ≡ attempted input (model meaning self.old) (fetched (memory self.old.store) self.old.run.next) }
+        ensures answer { result ≡ tried (instruction_m input (model P.meaning self.old) (fetched (S.memory self.old.store) self.old.run.next)) (fetched (S.memory self.old.store) self.old.run.next) }
+        ensures after { model P.meaning self.new ≡ attempted input (model P.meaning self.old) (fetched (S.memory self.old.store) self.old.run.next) }
         ensures store { self.new.store ≡ self.old.store }
     {
         let here = self.run.next;
@@ -72,8 +72,8 @@ impl<S: Store, P: StepPort> Axis<S, P> {
 
     /// The instruction part of a tick.
     fn advance_run(&mut self, input: u8) -> Answer
-        ensures answer { result ≡ (run_m (store_reader (memory self.old.store)) input (model meaning self.old)).reply.answer }
-        ensures after { model meaning self.new ≡ (run_m (store_reader (memory self.old.store)) input (model meaning self.old)).state }
+        ensures answer { result ≡ (run_m (store_reader (S.memory self.old.store)) input (model P.meaning self.old)).reply.answer }
+        ensures after { model P.meaning self.new ≡ (run_m (store_reader (S.memory self.old.store)) input (model P.meaning self.old)).state }
         ensures store { self.new.store ≡ self.old.store }
     {
         if !is_going(&self.run) {
@@ -90,8 +90,8 @@ impl<S: Store, P: StepPort> Axis<S, P> {
 
     /// A tick: first the motion, then, if a run is going, one instruction.
     pub(crate) fn clock(&mut self, input: u8) -> Answer
-        ensures answer { result ≡ (tick_m (store_reader (memory self.old.store)) input (model meaning self.old)).reply.answer }
-        ensures after { model meaning self.new ≡ (tick_m (store_reader (memory self.old.store)) input (model meaning self.old)).state }
+        ensures answer { result ≡ (tick_m (store_reader (S.memory self.old.store)) input (model P.meaning self.old)).reply.answer }
+        ensures after { model P.meaning self.new ≡ (tick_m (store_reader (S.memory self.old.store)) input (model P.meaning self.old)).state }
         ensures store { self.new.store ≡ self.old.store }
     {
         if let Err(refusal) = advance(&mut self.body, &mut self.port, input) {

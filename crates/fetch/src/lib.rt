@@ -17,7 +17,7 @@ const MARK: u8 = 255;
 
 /// What stands at a place. Every byte is asked of the store, whose fault goes up with its page.
 pub fn fetch<S: Store>(store: &S, place: u16) -> Result<Reading<u16>, Fault>
-    ensures value { result ≡ fetched (memory store.now) place }
+    ensures value { result ≡ fetched (S.memory store.now) place }
     ensures range { InRange result }
 {
     if !is_user_place(place) {
@@ -29,7 +29,7 @@ pub fn fetch<S: Store>(store: &S, place: u16) -> Result<Reading<u16>, Fault>
 /// The byte at a user place, and what follows from it.
 fn read_first<S: Store>(store: &S, place: u16) -> Result<Reading<u16>, Fault>
     requires { user place ≡ true }
-    ensures value { result ≡ and_then (byte_at (memory store.now) place) (lettered (memory store.now) place) }
+    ensures value { result ≡ and_then (byte_at (S.memory store.now) place) (lettered (S.memory store.now) place) }
     ensures range { InRange result }
 {
     let letter = store.read(place)?;
@@ -42,7 +42,7 @@ fn read_first<S: Store>(store: &S, place: u16) -> Result<Reading<u16>, Fault>
 /// The instruction that begins with this byte, all of it in user places.
 fn read_lettered<S: Store>(store: &S, place: u16, letter: u8) -> Result<Reading<u16>, Fault>
     requires { user place ≡ true }
-    ensures value { result ≡ shaped (memory store.now) place letter (shape_of letter) }
+    ensures value { result ≡ shaped (S.memory store.now) place letter (shape_of letter) }
     ensures range { InRange result }
 {
     let Some(shape) = shape_of(letter as char) else {
@@ -63,7 +63,7 @@ fn read_operands<S: Store>(
     width: u16,
 ) -> Result<Reading<u16>, Fault>
     requires { (place < 2048) × (width < 5) }
-    ensures value { result ≡ operands_at (memory store.now) place letter width }
+    ensures value { result ≡ operands_at (S.memory store.now) place letter width }
     ensures range { InRange result }
 {
     let low = operand_byte(store, place, width, 1)?;
@@ -76,7 +76,7 @@ fn read_operands<S: Store>(
 /// A byte after the letter, or 0 past the instruction's last.
 fn operand_byte<S: Store>(store: &S, place: u16, width: u16, index: u16) -> Result<u8, Fault>
     requires { (place < 2048) × (index < 4) }
-    ensures { result ≡ operand_byte (memory store.now) place width index }
+    ensures { result ≡ operand_byte (S.memory store.now) place width index }
 {
     if index >= width {
         return Ok(0);

@@ -5,7 +5,7 @@ use Rattle.isa.specs.declared.refusal.Refusal.TheVariants.{Full, Limit}
 use Rattle.isa.specs.declared.instruction.Direction.{Direction}
 use Rattle.isa.specs.declared.instruction.Direction.TheVariants.{Plus, Minus}
 use Rattle.isa.specs.TwosComplement.{half24}
-use Rattle.port.specs.Steps.{Meaning, is_full, stepped}
+use Rattle.port.specs.Steps.{Room, unlimited, upto, Meaning, stepped}
 use Rattle.machine.specs.Setups.{Setup, fresh_setup}
 use Rattle.machine.specs.Motions.{Motion, Moving, still, moves, due, gathered, with_sum, after_step}
 
@@ -59,6 +59,11 @@ went b q = record { body = b; port = q; ends = None }
 -- a step that the port took
 abbrev pub step_taken : ℕ → Motion → Body → Body
 step_taken sum m b = record { name = b.name; setup = b.setup; position = shifted half24 m.direction b.position; outputs = b.outputs; moving = after_step sum m }
+
+-- no step more
+abbrev pub is_full : Room → Bool
+is_full unlimited = false
+is_full (upto n) = n == 0
 
 -- the port gets a step; if it refuses, the motion ends
 abbrev pub stepping : ℕ → Motion → Body → Meaning → Moved

@@ -1,5 +1,5 @@
 -- What a step port means, and what one step does to it.
-use Rattle.std.specs.Prelude.{ℕ, ◌+◌, ◌-◌, ◌%◌, Bool, false, cond, Ok, Err, Result, ◌==◌}
+use Rattle.std.specs.Prelude.{ℕ, zero, suc, ◌+◌, ◌%◌, Ok, Err, Result}
 use Rattle.isa.specs.declared.refusal.Refusal.{Refusal}
 use Rattle.isa.specs.declared.refusal.Refusal.TheVariants.{Full}
 use Rattle.isa.specs.declared.instruction.Direction.{Direction}
@@ -23,21 +23,19 @@ abbrev pub counted : Direction → Counts → Counts
 counted Plus c = record { plus = (c.plus + 1) % modulus; minus = c.minus }
 counted Minus c = record { plus = c.plus; minus = (c.minus + 1) % modulus }
 
--- no step more
-abbrev pub is_full : Room → Bool
-is_full unlimited = false
-is_full (upto n) = n == 0
-
-abbrev pub one_less : Room → Room
-one_less unlimited = unlimited
-one_less (upto n) = upto (n - 1)
-
 -- 16 where there is no room
 abbrev pub answered : Room → Result (Unit {0}) Refusal
-answered r = cond (is_full r) (Err Full) (Ok tt)
+answered unlimited = Ok tt
+answered (upto zero) = Err Full
+answered (upto (suc n)) = Ok tt
+
+abbrev pub stepped_in : Direction → Counts → Room → Meaning
+stepped_in d c unlimited = record { counts = counted d c; room = unlimited }
+stepped_in d c (upto zero) = record { counts = c; room = upto zero }
+stepped_in d c (upto (suc n)) = record { counts = counted d c; room = upto n }
 
 abbrev pub stepped : Direction → Meaning → Meaning
-stepped d m = cond (is_full m.room) m (record { counts = counted d m.counts; room = one_less m.room })
+stepped d m = stepped_in d m.counts m.room
 
 abbrev pub none : Counts
 none = record { plus = 0; minus = 0 }

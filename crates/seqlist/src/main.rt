@@ -11,19 +11,28 @@ use lister::list;
 use sequence::ImageFault;
 use std::io;
 use std::io::{Read, Write};
+use std::process::ExitCode;
 use wording::{image_line, sentence};
 
 const IMAGE_SIZE: u64 = 2_048;
 
 const LISTING_ROOM: usize = 16_384;
 
-fn main(rt: HostRuntime) -> anyhow::Result<()> {
-    match read_image(&rt) {
-        Ok(image) => print_listing(&rt, image.as_slice()),
+/// Whoever refuses has said so on standard output and standard error; the status is all that is left to say.
+fn main(rt: HostRuntime) -> ExitCode {
+    match run(&rt) {
+        Ok(()) => ExitCode::SUCCESS,
+        Err(_) => ExitCode::FAILURE,
+    }
+}
+
+fn run(rt: &HostRuntime) -> anyhow::Result<()> {
+    match read_image(rt) {
+        Ok(image) => print_listing(rt, image.as_slice()),
         Err(error) => {
             eprintln!(rt; "seqlist: standard input cannot be read: {error}")?;
             refuse(
-                &rt,
+                rt,
                 ImageFault {
                     refusal: Refusal::Size,
                     place: 0,

@@ -11,6 +11,7 @@ use isa::Refusal;
 use sequence::{Label, TextFault};
 use std::alloc::{AllocError, Global};
 use std::io::{Read, Write};
+use std::process::ExitCode;
 use std::{env, io};
 use translator::translate;
 use wording::{sentence, text_line};
@@ -29,17 +30,25 @@ const NO_LABEL: Label = Label {
     place: 0,
 };
 
-fn main(rt: HostRuntime) -> anyhow::Result<()> {
-    let Some(with_labels) = wants_labels(&rt) else {
+/// Whoever refuses has said so on standard output and standard error; the status is all that is left to say.
+fn main(rt: HostRuntime) -> ExitCode {
+    match run(&rt) {
+        Ok(()) => ExitCode::SUCCESS,
+        Err(_) => ExitCode::FAILURE,
+    }
+}
+
+fn run(rt: &HostRuntime) -> anyhow::Result<()> {
+    let Some(with_labels) = wants_labels(rt) else {
         eprintln!(rt; "usage: seqtran [--labels] < TEXT > IMAGE")?;
         return Err(anyhow!("the arguments are wrong"));
     };
-    match read_text(&rt) {
-        Ok(text) => print_image(&rt, text.as_slice(), with_labels),
+    match read_text(rt) {
+        Ok(text) => print_image(rt, text.as_slice(), with_labels),
         Err(error) => {
             eprintln!(rt; "seqtran: standard input cannot be read: {error}")?;
             refuse(
-                &rt,
+                rt,
                 TextFault {
                     refusal: Refusal::Size,
                     line: 0,

@@ -6,18 +6,10 @@ ghost use Rattle.store.specs.Edits.{no_user_place, opened, putting, put, ended};
 use crate::store::{Store, StoreFault};
 use isa::{Refusal, is_user_place};
 
-/// An opened edit, beside the store that it edits. It is closed once, by ending or by leaving.
+/// An opened edit, beside the store that it edits. It is closed once, by ending or by leaving: its type is not `Drop`, so
+/// that code which lets one go is refused.
 pub struct Edit {
     next: u16,
-}
-
-// An opened edit is never let go: nothing can meet what this asks.
-impl Drop for Edit {
-    fn drop(self)
-        requires { ⊥ }
-    {
-        let Edit { next: _ } = self;
-    }
 }
 
 impl Edit {

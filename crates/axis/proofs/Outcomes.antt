@@ -1,7 +1,6 @@
 -- What an outcome says of an action.
 use Rattle.std.proofs.Common.{◌≡◌, ℕ, Bool, true, false, cond, refl, arith}
 use Rattle.machine.specs.declared.answer.Answer.{Answer}
-use Rattle.axis.specs.declared.act.Outcome.{Outcome}
 use Rattle.axis.specs.declared.act.Outcome.TheVariants.{Busy, Done}
 
 pub done_not_busy : (b : Bool) (x y : Answer) → Done x ≡ cond b Busy (Done y) → (b ≡ false) × (x ≡ y)

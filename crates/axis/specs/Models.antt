@@ -1,5 +1,5 @@
 -- What the parts of an axis mean in the machine.
-use Rattle.std.specs.Prelude.{ℕ, Bool, cond, Some, None, Ok, Err, Option, Result}
+use Rattle.std.specs.Prelude.{ℕ, cond, Some, None, Ok, Err, Option, Result}
 use Rattle.isa.specs.declared.refusal.Refusal.{Refusal}
 use Rattle.machine.specs.Setups.{Setup}
 use Rattle.machine.specs.Motions as Motions

@@ -3,7 +3,6 @@ use Rattle.std.specs.Prelude.{ℕ, pos, Some, None, Option}
 use Rattle.isa.specs.Shapes.{operands}
 use Rattle.isa.specs.declared.shape.Operands.{Operands}
 use Rattle.isa.specs.declared.instruction.Direction.TheVariants.{Plus, Minus}
-use Rattle.isa.specs.declared.instruction.Action.{Action}
 use Rattle.isa.specs.declared.instruction.Action.TheVariants.{Outputs, Divisor, InitialSpeed, SlewSpeed, Rates, Origin, IndexTo, Wait, Report, Index}
 use Rattle.isa.specs.declared.instruction.Instruction.{Instruction}
 use Rattle.isa.specs.declared.instruction.Instruction.TheVariants.{Go, Jump, JumpLow, Act}

@@ -1,5 +1,5 @@
 -- What encoding and decoding have to do with each other.
-use Rattle.std.specs.Prelude.{◌≡◌, ℕ, true, List, length, take, Some, Ok, Err, Result}
+use Rattle.std.specs.Prelude.{◌≡◌, ℕ, true, List, take, Some, Ok, Err, Result}
 use Rattle.std.specs.Option.{option_map}
 use Rattle.isa.specs.declared.refusal.Refusal.{Refusal}
 use Rattle.isa.specs.declared.refusal.Refusal.TheVariants.{Range}

@@ -1,5 +1,5 @@
 -- One instruction read at a place.
-use Rattle.std.proofs.Common.{◌≡◌, ℕ, suc, ◌+◌, ◌-◌, ◌<◌, ◌≤◌, Bool, true, false, cond, List, [], ◌∷◌, length, get_or, take, drop, Some, None, Ok, Err, Option, Result, sym, refl, ap, ◌∙◌, subst, arith}
+use Rattle.std.proofs.Common.{◌≡◌, ℕ, ◌+◌, ◌-◌, ◌<◌, ◌≤◌, true, false, cond, List, length, get_or, take, drop, Some, None, Ok, Err, Option, Result, sym, ap, ◌∙◌, subst, arith}
 use Rattle.std.proofs.lemmas.List.{get_or-drop, get_or-take, get_or_default}
 use Rattle.std.proofs.lemmas.Bool.Decides.{nat_tests}
 use Rattle.std.specs.Option.{option_map}
@@ -12,12 +12,11 @@ use Rattle.isa.specs.Places.{user}
 use Rattle.isa.specs.Shapes.{width_of}
 use Rattle.isa.specs.Instructions.{letter_of}
 use Rattle.isa.specs.Table.{shape_of}
-use Rattle.isa.specs.Codes.{encoded, width, padded, decoded}
+use Rattle.isa.specs.Codes.{width, padded, decoded}
 use Rattle.isa.specs.Laws.{Stood}
 use Rattle.isa.proofs.Areas.{last_user}
 use Rattle.isa.proofs.RoundTrip.{letter_width, target_low}
-use Rattle.sequence.specs.Images.{Content, wrong, code, mark_byte, ranged, lettered, read_at}
-use Rattle.lister.specs.declared.walk.Read.{Read}
+use Rattle.sequence.specs.Images.{wrong, mark_byte, ranged, lettered, read_at}
 use Rattle.lister.specs.Walks.{Reads}
 
 module _ (im : List ℕ) (p : ℕ) (lt : p < length im) (u : user p ≡ true) where

@@ -1,5 +1,5 @@
 -- The test of targets by the map of first bytes is that of the definition.
-use Rattle.std.proofs.Common.{◌≡◌, ℕ, ◌<◌, ◌≤◌, Bool, true, false, cond, ◌&&◌, ◌||◌, eqb, leb, ◌≢◌, List, [], ◌∷◌, length, get_or, set, replicate, Some, None, Ok, Err, Option, Result, sym, refl, ap, ◌∙◌, subst, ⊎_elim, arith, length-set, get_or-set_other, get_or-set_same}
+use Rattle.std.proofs.Common.{◌≡◌, ℕ, ◌<◌, ◌≤◌, Bool, true, false, cond, ◌&&◌, ◌||◌, eqb, leb, ◌≢◌, List, [], ◌∷◌, length, get_or, set, replicate, Some, None, Ok, Err, Option, Result, sym, refl, ap, ◌∙◌, ⊎_elim, arith, length-set, get_or-set_other, get_or-set_same}
 use lib.ListN.{length-replicate}
 use Rattle.std.proofs.lemmas.List.{get_or-replicate}
 use Rattle.std.proofs.lemmas.Bool.{cases_eq, eq-eqb, eqb-true, ne_eqb, le-leb, leb-true, and_from, or_right}
@@ -11,10 +11,10 @@ use Rattle.isa.specs.Codes.{in_range}
 use Rattle.isa.proofs.RoundTrip.{target_low}
 use Rattle.sequence.specs.declared.image.ImageFault.{ImageFault}
 use Rattle.sequence.specs.declared.image.Found.{Found}
-use Rattle.sequence.specs.Images.{image_fault, walk, begins, begun, aimed, contents}
+use Rattle.sequence.specs.Images.{image_fault, walk, begins, begun, aimed}
 use Rattle.sequence.specs.Listings.{printed, listing, listed}
 use Rattle.sequence.proofs.Contents.{walk_in_range}
-use Rattle.lister.specs.Targets.{marked, firsts, first, checked_one, checked_all}
+use Rattle.lister.specs.Targets.{marked, firsts, first, checked_all}
 
 marks_at : (fs : List Found) (m : List Bool) (t : ℕ) → t < length m → get_or (marked fs m) t false ≡ (begins fs t || get_or m t false)
 marks_at [] m t h = refl

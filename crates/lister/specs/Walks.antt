@@ -1,5 +1,5 @@
 -- What the walk of the code has to do with that of the definition.
-use Rattle.std.specs.Prelude.{◌≡◌, ℕ, ◌+◌, ◌<◌, ◌≤◌, Bool, true, false, cond, not, ◌&&◌, List, [], length, drop, Some, None, Ok, Err, Option, Result, ◌≢◌, slice_index}
+use Rattle.std.specs.Prelude.{◌≡◌, ℕ, ◌+◌, ◌<◌, ◌≤◌, Bool, true, cond, not, ◌&&◌, List, [], drop, Some, None, Ok, Err, Option, Result, ◌≢◌, slice_index}
 use Rattle.isa.specs.declared.refusal.Refusal.{Refusal}
 use Rattle.isa.specs.declared.refusal.Refusal.TheVariants.{Area}
 use Rattle.isa.specs.declared.instruction.Instruction.{Instruction}

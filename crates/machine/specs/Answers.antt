@@ -1,5 +1,5 @@
 -- The bytes of an answer.
-use Rattle.std.specs.Prelude.{ℕ, ◌+◌, ◌-◌, ◌/◌, ◌%◌, List, [], ◌∷◌, ◌++◌, length, replicate, ℤ}
+use Rattle.std.specs.Prelude.{ℕ, ◌+◌, ◌-◌, ◌/◌, ◌%◌, List, [], ◌∷◌, ◌++◌, length, replicate}
 use Rattle.isa.specs.Refusals.{number_of}
 use Rattle.sequence.specs.Numbers.{signed}
 use Rattle.machine.specs.declared.answer.Answer.{Answer}

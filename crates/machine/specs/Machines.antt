@@ -1,6 +1,6 @@
 -- The machine: a start, a received byte, a tick, and any list of them, for any points and any source of instructions. With places
 -- and the source that reads a store it is the axis; with lines and the source that reads a text it is the text read line by line.
-use Rattle.std.specs.Prelude.{ℕ, Bool, true, false, cond, List, [], ◌∷◌, ℤ, Some, None, Ok, Err, Option, Result, ◌==◌, nat_lt}
+use Rattle.std.specs.Prelude.{ℕ, cond, List, [], ◌∷◌, ℤ, Some, None, Ok, Err, Option, Result, ◌==◌, nat_lt}
 use Rattle.isa.specs.declared.refusal.Refusal.{Refusal}
 use Rattle.isa.specs.declared.refusal.Refusal.TheVariants.{Size, Area, Busy}
 use Rattle.isa.specs.declared.instruction.Instruction.{Instruction}

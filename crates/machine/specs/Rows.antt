@@ -1,7 +1,6 @@
 -- The text read line by line: its source knows the lines and where each falls, and no image.
 use Rattle.std.specs.Prelude.{ℕ, suc, ◌+◌, Bool, true, false, cond, List, [], ◌∷◌, Some, None, Ok, Err, Option, Result, ◌==◌, slice_index_or}
 use Rattle.std.specs.Str.{bytes_eq}
-use Rattle.isa.specs.declared.instruction.Instruction.{Instruction}
 use Rattle.isa.specs.declared.instruction.Instruction.TheVariants.{Act}
 use Rattle.isa.specs.declared.instruction.Action.TheVariants.{Report}
 use Rattle.isa.specs.Instructions.{retarget}

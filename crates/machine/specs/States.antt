@@ -1,6 +1,6 @@
 -- What the machine holds. X is the type of the points at which a run stands: places for the axis, lines and marks for the text
 -- read line by line. Only the next point and the point of an ending are of type X; all else is the same for both.
-use Rattle.std.specs.Prelude.{ℕ, Bool, true, false, cond, Some, None, Ok, Err, Option, Result}
+use Rattle.std.specs.Prelude.{ℕ, Bool, true, false, cond, Ok, Err, Result}
 use Rattle.isa.specs.declared.instruction.Instruction.{Instruction}
 use Rattle.isa.specs.declared.instruction.Instruction.TheVariants.{Go, Jump, JumpLow, Act}
 use Rattle.isa.specs.Instructions.{retarget}

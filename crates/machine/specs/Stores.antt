@@ -1,5 +1,5 @@
 -- The axis's source: an instruction read out of a store.
-use Rattle.std.specs.Prelude.{ℕ, suc, ◌+◌, ◌-◌, cond, List, [], ◌∷◌, Some, None, Ok, Err, Option, Result, ◌==◌, nat_lt}
+use Rattle.std.specs.Prelude.{ℕ, suc, ◌+◌, ◌-◌, cond, [], ◌∷◌, Some, None, Ok, Err, Option, Result, ◌==◌, nat_lt}
 use Rattle.isa.specs.declared.refusal.Refusal.{Refusal}
 use Rattle.isa.specs.declared.refusal.Refusal.TheVariants.{Area, Code}
 use Rattle.isa.specs.declared.shape.Shape.{Shape}
@@ -14,7 +14,6 @@ use Rattle.store.specs.declared.store.StoreFault.{StoreFault}
 use Rattle.store.specs.Memories.{Memory, reading}
 use Rattle.machine.specs.declared.run.Fault.{Fault}
 use Rattle.machine.specs.declared.run.Fault.TheVariants.{Own, Store}
-use Rattle.machine.specs.declared.run.Reading.{Reading}
 use Rattle.machine.specs.declared.run.Reading.TheVariants.{Instruction as instruction, Mark as mark}
 use Rattle.machine.specs.States.{Fetched, Reader}
 

@@ -1,5 +1,5 @@
 -- What an optional answer tells of the test that made it.
-use Rattle.std.proofs.Common.{◌≡◌, ℕ, ◌<◌, Bool, true, false, cond, List, [], ◌∷◌, length, Some, None, Option, sym, refl, arith}
+use Rattle.std.proofs.Common.{◌≡◌, ℕ, ◌<◌, Bool, true, false, cond, List, [], ◌∷◌, length, Some, None, refl, arith}
 use Rattle.sequence.specs.Texts.{Token}
 use Rattle.sequence.specs.Lines.{touching}
 

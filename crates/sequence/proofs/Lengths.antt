@@ -1,5 +1,5 @@
 -- How long a listing gets: at most eight bytes a place.
-use Rattle.std.proofs.Common.{◌≡◌, ℕ, zero, suc, ◌+◌, ◌-◌, ◌*◌, ◌<◌, ◌≤◌, Bool, true, false, cond, not, ◌&&◌, ltb, List, [], ◌∷◌, ◌++◌, length, ℤ, pos, negsuc, Ok, Err, Result, sym, refl, ap, ◌∙◌, subst, arith}
+use Rattle.std.proofs.Common.{◌≡◌, ℕ, zero, suc, ◌+◌, ◌-◌, ◌*◌, ◌<◌, ◌≤◌, Bool, true, false, cond, not, ◌&&◌, List, [], ◌∷◌, ◌++◌, length, ℤ, pos, negsuc, Ok, Err, Result, refl, ap, ◌∙◌, subst, arith}
 use Rattle.std.proofs.lemmas.List.{length-append}
 use Rattle.std.proofs.lemmas.Bool.Decides.{nat_tests}
 use Rattle.isa.specs.declared.instruction.Direction.TheVariants.{Plus, Minus}
@@ -8,7 +8,7 @@ use Rattle.isa.specs.declared.instruction.Instruction.{Instruction}
 use Rattle.isa.specs.declared.instruction.Instruction.TheVariants.{Go, Jump, JumpLow, Act}
 use Rattle.std.proofs.lemmas.Bool.{both_ways}
 use Rattle.isa.specs.declared.refusal.Refusal.TheVariants.{Area, Target}
-use Rattle.isa.specs.Places.{image_size, user}
+use Rattle.isa.specs.Places.{user}
 use Rattle.isa.specs.Instructions.{target_of}
 use Rattle.isa.specs.Checks.{and_then}
 use Rattle.isa.specs.Codes.{width, in_range}

@@ -1,5 +1,5 @@
 -- The listing of an image.
-use Rattle.std.specs.Prelude.{◌≡◌, ℕ, ◌≤◌, Bool, cond, ◌&&◌, List, [], ◌∷◌, ◌++◌, length, ℤ, Some, None, Ok, Err, codes, Option, Result, ◌==◌, nat_le, nat_lt}
+use Rattle.std.specs.Prelude.{◌≡◌, ℕ, ◌≤◌, cond, ◌&&◌, List, [], ◌∷◌, ◌++◌, length, ℤ, Some, None, Ok, Err, codes, Option, Result, ◌==◌, nat_le, nat_lt}
 use Rattle.std.proofs.lemmas.List.Edits.{sets}
 use Rattle.isa.specs.declared.refusal.Refusal.TheVariants.{Size}
 use Rattle.isa.specs.declared.shape.Shape.{Shape}

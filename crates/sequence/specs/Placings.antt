@@ -1,5 +1,5 @@
 -- Lines find their places, labels theirs, targets become places.
-use Rattle.std.specs.Prelude.{ℕ, ◌+◌, ◌-◌, Bool, true, false, cond, ◌&&◌, List, [], ◌∷◌, ◌++◌, replicate, Some, None, Ok, Err, Option, Result, ◌==◌, slice_index_or, slice_set}
+use Rattle.std.specs.Prelude.{ℕ, ◌+◌, ◌-◌, Bool, true, false, cond, ◌&&◌, List, [], ◌∷◌, ◌++◌, replicate, Some, None, Ok, Option, Result, ◌==◌, slice_index_or, slice_set}
 use Rattle.std.proofs.lemmas.List.Edits.{sets}
 use Rattle.std.specs.Str.{bytes_eq}
 use Rattle.isa.specs.declared.refusal.Refusal.TheVariants.{Stale, Area, Label as Unnamed, Target as Astray, Overlap}
@@ -7,7 +7,7 @@ use Rattle.isa.specs.declared.instruction.Instruction.{Instruction}
 use Rattle.isa.specs.declared.instruction.Instruction.TheVariants.{Go, Jump, JumpLow, Act}
 use Rattle.isa.specs.Checks.{and_then, require}
 use Rattle.isa.specs.Places.{image_size, user, every, all_user}
-use Rattle.isa.specs.Codes.{width, encoded}
+use Rattle.isa.specs.Codes.{width}
 use Rattle.sequence.specs.declared.text.TextFault.{TextFault}
 use Rattle.sequence.specs.declared.text.Label.{Label}
 use Rattle.sequence.specs.declared.text.Target.{Target}

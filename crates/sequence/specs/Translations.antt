@@ -1,5 +1,5 @@
 -- The translation of a text.
-use Rattle.std.specs.Prelude.{ℕ, suc, ◌+◌, Bool, true, cond, ◌&&◌, List, [], ◌∷◌, length, replicate, Ok, Err, Result, nat_le}
+use Rattle.std.specs.Prelude.{ℕ, ◌+◌, Bool, true, cond, ◌&&◌, List, [], ◌∷◌, length, replicate, Ok, Result, nat_le}
 use Rattle.std.proofs.lemmas.List.Edits.{sets}
 use Rattle.isa.specs.declared.refusal.Refusal.TheVariants.{Size}
 use Rattle.isa.specs.Checks.{and_then, require}

@@ -1,5 +1,5 @@
 -- Reading and writing the bytes is reading and writing the pages.
-use Rattle.std.proofs.Common.{◌≡◌, ℕ, zero, suc, ◌+◌, ◌*◌, ◌/◌, ◌%◌, ◌<◌, ◌≤◌, List, [], ◌∷◌, ◌++◌, length, get_or, take, drop, set, sym, refl, ap, ◌∙◌, append_assoc, arith, length-drop, take-append-drop, length-take, get_or-drop, take_all, get_or-take, drop-drop, take_at, drop-set-lt, take-add, drop_at}
+use Rattle.std.proofs.Common.{◌≡◌, ℕ, zero, suc, ◌+◌, ◌*◌, ◌/◌, ◌%◌, ◌<◌, ◌≤◌, List, [], ◌∷◌, ◌++◌, length, get_or, take, drop, set, sym, refl, ap, ◌∙◌, append_assoc, arith, length-drop, take-append-drop, length-take, get_or-drop, take_all, get_or-take, drop-drop, take_at, drop-set-lt, drop_at}
 use lib.Seq.{take-set-lt, take-set-le, drop-set-add, paste, take-append-le, drop-append-le}
 use Rattle.store.specs.Memories.{sound, spoilt}
 use Rattle.store.specs.Eeproms.{cut}

@@ -1,8 +1,7 @@
 -- A token at the front of a line.
-use Rattle.std.proofs.Common.{◌≡◌, ℕ, suc, ◌+◌, ◌-◌, ◌<◌, ◌≤◌, Bool, true, false, cond, List, [], ◌∷◌, length, get_or, take, drop, sym, refl, ap, ◌∙◌, add-zero, arith, length-drop, get_or-drop}
-use Rattle.std.proofs.lemmas.Bool.Decides.{nat_tests}
-use Rattle.std.proofs.lemmas.List.{take_rest, drop-drop}
-use Rattle.sequence.specs.Texts.{Token, gap, word, tokens}
+use Rattle.std.proofs.Common.{◌≡◌, ℕ, ◌+◌, ◌-◌, ◌<◌, Bool, true, false, cond, List, [], ◌∷◌, length, get_or, take, drop, sym, refl, ap, ◌∙◌, add-zero, arith, length-drop, get_or-drop}
+use Rattle.std.proofs.lemmas.List.{drop-drop}
+use Rattle.sequence.specs.Texts.{gap, word, tokens}
 
 pub take_word : (s : List ℕ) → take (length (word s)) s ≡ word s
 take_word [] = refl

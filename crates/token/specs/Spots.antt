@@ -1,5 +1,5 @@
 -- What a scanner has yet to give.
-use Rattle.std.specs.Prelude.{◌≡◌, ℕ, ◌+◌, true, List, [], ◌∷◌, drop, Some, None, Option}
+use Rattle.std.specs.Prelude.{◌≡◌, ◌+◌, true, List, [], ◌∷◌, drop, Some, None, Option}
 use Rattle.sequence.specs.Texts.{Token, tokens}
 use Rattle.token.specs.declared.scanner.Scanner.{Scanner}
 use Rattle.token.specs.declared.scanner.Spot.{Spot}

@@ -1,5 +1,5 @@
 -- How many label-shaped tokens a line has.
-use Rattle.std.proofs.Common.{◌≡◌, ℕ, suc, ◌+◌, ◌≤◌, Bool, true, false, cond, List, [], ◌∷◌, length, refl, ap, arith}
+use Rattle.std.proofs.Common.{ℕ, suc, ◌+◌, ◌≤◌, Bool, true, false, cond, List, [], ◌∷◌, length, arith}
 use Rattle.sequence.specs.Texts.{Token, gap, word, tokens, is_label}
 use Rattle.sequence.specs.Translations.{label_tokens}
 

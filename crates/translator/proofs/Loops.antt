@@ -1,5 +1,5 @@
 -- One step of a test over places, and of a run of writes.
-use Rattle.std.proofs.Common.{◌≡◌, ℕ, suc, ◌+◌, ◌-◌, ◌<◌, ◌≤◌, Bool, true, false, ◌&&◌, List, [], ◌∷◌, length, get_or, drop, set, replicate, sym, refl, ap, ◌∙◌, arith}
+use Rattle.std.proofs.Common.{◌≡◌, ℕ, suc, ◌+◌, ◌-◌, ◌<◌, ◌≤◌, Bool, true, ◌&&◌, List, length, get_or, drop, set, replicate, ap, ◌∙◌, arith}
 use lib.Seq.{sets}
 use Rattle.std.proofs.lemmas.List.{drop_more, drop_all}
 use Rattle.isa.specs.Places.{every}

@@ -1,10 +1,9 @@
 -- One line more of the first pass.
-use Rattle.std.proofs.Common.{◌≡◌, ℕ, ◌+◌, ◌≤◌, true, List, [], ◌∷◌, drop, Some, None, Ok, Err, Option, Result, sym, refl, ap, ◌∙◌, arith}
+use Rattle.std.proofs.Common.{◌≡◌, ℕ, ◌+◌, ◌≤◌, true, List, ◌∷◌, drop, Some, None, Ok, Err, Option, Result, sym, refl, ap, ◌∙◌, arith}
 use Rattle.std.proofs.lemmas.List.{drop-drop}
 use Rattle.isa.specs.Checks.{and_then}
 use Rattle.layout.proofs.LabelCounts as counts
 use Rattle.sequence.specs.declared.text.TextFault.{TextFault}
-use Rattle.sequence.specs.declared.text.Source.{Source}
 use Rattle.sequence.specs.declared.text.Line.{Line}
 use Rattle.sequence.specs.declared.text.Line.TheVariants.{Blank, Opens, Holds}
 use Rattle.sequence.specs.declared.text.Definition.{Definition}

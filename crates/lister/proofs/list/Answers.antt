@@ -1,8 +1,6 @@
-use Rattle.std.proofs.Common.{◌≡◌, ℕ, ◌≤◌, true, List, length, is_ok, Ok, Err, Result, sym, refl, ap, ◌∙◌, subst, arith, rules}
+use Rattle.std.proofs.Common.{◌≡◌, ◌≤◌, length, is_ok, Ok, Err, sym, ap, ◌∙◌, subst, arith}
 use Rattle.std.proofs.lemmas.Result.{err_from_is_err_and}
 use Rattle.isa.specs.Checks.{and_then}
-use Rattle.sequence.specs.declared.image.ImageFault.{ImageFault}
-use Rattle.sequence.specs.declared.image.Found.{Found}
 use Rattle.sequence.specs.Listings.{printed, listed, answered, written, listing}
 use Rattle.sequence.proofs.Lengths.{short}
 use Rattle.relisting.proofs.RoundTrips.{relists, refuses_rightly}

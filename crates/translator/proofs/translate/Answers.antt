@@ -1,11 +1,11 @@
-use Rattle.std.proofs.Common.{◌≡◌, true, false, length, take, Ok, Err, sym, refl, ap, ◌∙◌, subst, arith, length-take-le, rules}
+use Rattle.std.proofs.Common.{◌≡◌, length, Ok, Err, sym, refl, ap, ◌∙◌, subst, arith, length-take-le}
 use Rattle.isa.specs.declared.refusal.Refusal.TheVariants.{Size}
 use Rattle.sequence.specs.Lines.{text_fault}
-use Rattle.layout.proofs.Laying.{lays_out, plan_size}
+use Rattle.layout.proofs.Laying.{lays_out}
 use Rattle.relisting.proofs.RoundTrips.{listed_again, round_trips}
 use Rattle.translator.specs.Answers.{translated, answered, image_after, TableAfter}
 use Rattle.translator.specs.Plans.{plan_of}
-use Rattle.translator.proofs.Outcomes.{text_unsized, lent_unsized, first_refused, second_refused, both_done, accepted, front_set}
+use Rattle.translator.proofs.Outcomes.{text_unsized, lent_unsized, both_done, accepted, front_set}
 use Rattle.translator.proofs.translate.Goals as goal
 use Rattle.translator.proofs.translate.Goals.{then-not-is_sized-via-then-not-is_sized, then-not-is_sized-via-else-not-is_sized+then-image-ne-PLACES, then-not-is_sized-via-else-not-is_sized+else-image-ne-PLACES+then-labels-lt-MOST_LABELS}
 

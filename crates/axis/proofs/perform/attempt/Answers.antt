@@ -1,4 +1,4 @@
-use Rattle.std.proofs.Common.{◌≡◌, cond, sym, ap, rules}
+use Rattle.std.proofs.Common.{cond, sym, ap, rules}
 use Rattle.machine.specs.declared.run.Course.TheVariants.{Onward, Stays}
 use Rattle.machine.specs.Effects.{carried_out}
 use Rattle.axis.specs.Models.{body_of}

@@ -1,4 +1,4 @@
-use Rattle.std.proofs.Common.{◌-◌, ◌*◌, ◌<◌, ◌≤◌, mul-le-mul, le-mul_of_pos_right, arith, rules}
+use Rattle.std.proofs.Common.{◌*◌, ◌<◌, ◌≤◌, mul-le-mul, le-mul_of_pos_right, arith, rules}
 use Rattle.axis.proofs.ramp.next_speed.Goals as goal
 
 pub overflow_mul-motion : goal.overflow_mul-motion

@@ -1,4 +1,4 @@
-use Rattle.std.proofs.Common.{◌≡◌, ◌+◌, true, length, Some, Ok, sym, ap, ◌∙◌, arith, rules}
+use Rattle.std.proofs.Common.{length, Some, Ok, sym, ap, ◌∙◌, arith, rules}
 use lib.Seq.{sets}
 use Rattle.sequence.specs.Listings.{printed}
 use Rattle.lister.specs.Walks.{left, Gives}

@@ -1,4 +1,4 @@
-use Rattle.std.proofs.Common.{◌≡◌, ℕ, ◌+◌, ◌≤◌, [], ◌∷◌, ◌++◌, length, set, sym, ap, subst, arith, length-set}
+use Rattle.std.proofs.Common.{◌≡◌, ℕ, ◌+◌, [], ◌∷◌, ◌++◌, length, set, ap, subst, arith, length-set}
 use Rattle.std.proofs.lemmas.List.{length-append}
 use Rattle.sequence.specs.Listings.{line_feed}
 use Rattle.sequence.specs.Numbers.{decimal}

@@ -1,4 +1,4 @@
-use Rattle.std.proofs.Common.{◌≡◌, ℕ, ◌+◌, ◌≤◌, [], ◌∷◌, ◌++◌, length, set, sym, ap, ◌∙◌, subst, arith, length-set}
+use Rattle.std.proofs.Common.{◌≡◌, ℕ, ◌+◌, [], ◌∷◌, ◌++◌, length, ap, subst, arith, length-set}
 use Rattle.std.proofs.lemmas.List.{length-append}
 use Rattle.isa.specs.declared.instruction.Instruction.{Instruction}
 use Rattle.sequence.specs.Listings.{space, line_feed, instruction_text, instruction_line}

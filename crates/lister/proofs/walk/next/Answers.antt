@@ -1,4 +1,4 @@
-use Rattle.std.proofs.Common.{◌≡◌, ◌+◌, true, cond, not, [], Ok, Err, sym, ap, ◌∙◌, arith}
+use Rattle.std.proofs.Common.{◌+◌, true, cond, not, [], Ok, Err, sym, ap, ◌∙◌, arith}
 use Rattle.isa.specs.declared.refusal.Refusal.TheVariants.{Area}
 use Rattle.sequence.specs.Images.{image_fault, with_found}
 use Rattle.lister.specs.Walks.{left, cursor}

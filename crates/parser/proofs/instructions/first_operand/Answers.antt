@@ -1,6 +1,5 @@
-use Rattle.std.proofs.Common.{ℕ, ◌-◌, List, ◌∷◌, length, drop, sym, ap, ◌∙◌, arith, length-drop}
+use Rattle.std.proofs.Common.{ℕ, List, ◌∷◌, drop, sym, ap, ◌∙◌, arith, length-drop}
 use Rattle.std.proofs.lemmas.List.{take_rest}
-use Rattle.sequence.specs.Texts.{Token}
 use Rattle.token.specs.Spots.{left}
 use Rattle.parser.proofs.Choosing.{touching_some}
 use Rattle.parser.proofs.instructions.first_operand.Goals as goal

@@ -1,4 +1,4 @@
-use Rattle.std.proofs.Common.{◌≡◌, ◌+◌, ◌<◌, [], length, set, ap, ◌∙◌, arith, rules}
+use Rattle.std.proofs.Common.{◌+◌, ◌<◌, [], length, set, ap, ◌∙◌, arith}
 use Rattle.std.proofs.lemmas.List.Edits.{fill_from_more, paste_none}
 use Rattle.store.proofs.eeprom.erase.Goals as goal
 

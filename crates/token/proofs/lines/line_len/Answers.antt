@@ -1,4 +1,4 @@
-use Rattle.std.proofs.Common.{length, get_or, drop, arith, rules}
+use Rattle.std.proofs.Common.{length, arith, rules}
 use Rattle.std.proofs.lemmas.List.{at_drop_more, at_drop_all}
 use Rattle.sequence.specs.Texts.{front}
 use Rattle.token.proofs.lines.line_len.Goals as goal

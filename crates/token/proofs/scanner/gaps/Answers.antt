@@ -1,5 +1,5 @@
-use Rattle.std.proofs.Common.{◌≡◌, ◌+◌, true, get_or, drop, sym, refl, ap, ◌∙◌, add_assoc, arith}
-use Rattle.std.proofs.lemmas.List.{at_drop_more, at_drop_all}
+use Rattle.std.proofs.Common.{◌≡◌, ◌+◌, true, arith}
+use Rattle.std.proofs.lemmas.List.{at_drop_more}
 use Rattle.sequence.specs.Texts.{tokens}
 use Rattle.token.proofs.scanner.gaps.Goals as goal
 

@@ -1,4 +1,4 @@
-use Rattle.std.proofs.Common.{◌≡◌, true, sym, refl, ◌∙◌, rules}
+use Rattle.std.proofs.Common.{◌≡◌, true, refl, rules}
 use Rattle.sequence.specs.Texts.{is_digits}
 use Rattle.token.specs.Kinds.{is_place}
 use Rattle.token.proofs.Names.{digits_no_label}

@@ -1,4 +1,4 @@
-use Rattle.std.proofs.Common.{◌≡◌, ◌<◌, length, pos, neg_ℤ, sym, ap, ◌∙◌, rules}
+use Rattle.std.proofs.Common.{◌<◌, length, pos, neg_ℤ, sym, ap, ◌∙◌, rules}
 use Rattle.std.proofs.lemmas.List.{take_rest}
 use Rattle.std.specs.Option.{option_map}
 use Rattle.sequence.specs.Texts.{unsigned_of}

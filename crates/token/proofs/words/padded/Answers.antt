@@ -1,4 +1,4 @@
-use Rattle.std.proofs.Common.{◌≡◌, ◌<◌, ◌≤◌, length, get_or, set, refl, ap, ◌∙◌, arith, rules}
+use Rattle.std.proofs.Common.{◌<◌, ◌≤◌, length, get_or, set, refl, ap, ◌∙◌, arith, rules}
 use Rattle.token.proofs.Names.{name_more, name_all}
 use Rattle.token.proofs.words.padded.Goals as goal
 

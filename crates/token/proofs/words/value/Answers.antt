@@ -1,7 +1,7 @@
-use Rattle.std.proofs.Common.{◌≡◌, ◌+◌, ◌*◌, drop, sym, ap, ◌∙◌, arith}
+use Rattle.std.proofs.Common.{◌+◌, ◌*◌, drop, sym, ap, ◌∙◌, arith}
 use Rattle.std.proofs.lemmas.List.{at_drop_all}
 use Rattle.sequence.specs.Texts.{read_on}
-use Rattle.token.proofs.Values.{tens, tens_low, one_digit, more_digits, more_low, more_value}
+use Rattle.token.proofs.Values.{tens_low, one_digit, more_digits, more_low, more_value}
 use Rattle.token.proofs.words.value.Goals as goal
 
 pub overflow_mul-n : goal.overflow_mul-n

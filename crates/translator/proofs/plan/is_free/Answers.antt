@@ -1,4 +1,4 @@
-use Rattle.std.proofs.Common.{ℕ, ◌+◌, Bool, get_or, arith}
+use Rattle.std.proofs.Common.{get_or, arith}
 use Rattle.sequence.specs.declared.text.Kind.TheVariants.{Free}
 use Rattle.sequence.specs.Placings.{is_free}
 use Rattle.std.proofs.lemmas.Bool.Decides.{nat_tests}

@@ -1,4 +1,4 @@
-use Rattle.std.proofs.Common.{◌≡◌, suc, ◌+◌, ◌-◌, set, replicate, sym, refl, ap, ◌∙◌, arith}
+use Rattle.std.proofs.Common.{◌≡◌, suc, ◌+◌, ◌-◌, set, replicate, sym, ap, ◌∙◌, arith}
 use lib.Seq.{sets}
 use Rattle.sequence.specs.declared.text.Kind.TheVariants.{First, Further}
 use Rattle.translator.proofs.Loops.{writes_more, writes_all}

@@ -1,4 +1,4 @@
-use Rattle.std.proofs.Common.{◌≡◌, sym, ap, arith}
+use Rattle.std.proofs.Common.{sym, ap, arith}
 use Rattle.std.proofs.lemmas.List.{get_or_past}
 use Rattle.sequence.specs.declared.text.Kind.TheVariants.{Free}
 use Rattle.sequence.specs.Placings.{is_first}

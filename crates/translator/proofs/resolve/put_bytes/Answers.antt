@@ -1,4 +1,4 @@
-use Rattle.std.proofs.Common.{◌≡◌, ◌+◌, drop, sym, refl, ap, ◌∙◌, arith}
+use Rattle.std.proofs.Common.{◌+◌, drop, sym, ap, ◌∙◌, arith}
 use lib.Seq.{sets}
 use Rattle.translator.proofs.Loops.{puts_more, puts_all}
 use Rattle.translator.proofs.resolve.put_bytes.Goals as goal

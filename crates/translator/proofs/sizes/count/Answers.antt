@@ -1,6 +1,5 @@
-use Rattle.std.proofs.Common.{◌≡◌, ◌+◌, ◌-◌, ◌≤◌, length, take, drop, ap, ◌∙◌, arith, rules}
+use Rattle.std.proofs.Common.{◌+◌, ◌-◌, ◌≤◌, length, drop, ap, arith}
 use Rattle.std.proofs.lemmas.List.{length-take, length-drop}
-use Rattle.sequence.specs.Texts.{lines}
 use Rattle.sequence.specs.Translations.{labels_in}
 use Rattle.translator.proofs.Cuts.{cut, no_more}
 use Rattle.translator.proofs.sizes.count.Goals as goal

@@ -1,7 +1,6 @@
-use Rattle.std.proofs.Common.{◌≡◌, ◌≤◌, true, [], length, arith, rules}
+use Rattle.std.proofs.Common.{◌≡◌, ◌≤◌, true, length, arith, rules}
 use Rattle.sequence.specs.Texts.{tokens}
 use Rattle.sequence.specs.Translations.{label_tokens}
-use Rattle.token.specs.Spots.{left}
 use Rattle.translator.proofs.Counting.{few_labels}
 use Rattle.translator.proofs.sizes.count_labels.Goals as goal
 

@@ -1,6 +1,4 @@
-use Rattle.std.proofs.Common.{◌≡◌, ◌*◌, ◌/◌, ◌%◌, ◌<◌, true, eqb, ltb, length, get_or, take, drop, sym, ap, ◌∙◌, arith, rules, eq-eqb}
-use Rattle.store.specs.Memories.{spoilt, sound}
-use Rattle.store.specs.Eeproms.{cut}
+use Rattle.std.proofs.Common.{◌≡◌, ◌/◌, ◌<◌, true, eqb, ltb, length, arith, rules}
 use Rattle.store.proofs.Cuts.{cut_at, cut_read}
 use Rattle.store.proofs.eeprom.EepromStore.read.Goals as goal
 

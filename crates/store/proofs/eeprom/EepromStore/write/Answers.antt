@@ -1,6 +1,4 @@
-use Rattle.std.proofs.Common.{◌≡◌, ◌+◌, ◌*◌, ◌/◌, ◌%◌, ◌<◌, true, eqb, ltb, length, get_or, take, drop, set, sym, ap, ◌∙◌, arith, length-set, rules}
-use Rattle.store.specs.Memories.{spoilt, sound}
-use Rattle.store.specs.Eeproms.{cut, memory_of}
+use Rattle.std.proofs.Common.{◌≡◌, ◌+◌, ◌*◌, ◌/◌, ◌%◌, ◌<◌, true, eqb, ltb, length, arith, length-set, rules}
 use Rattle.store.proofs.Cuts.{cut_at, cut_set}
 use Rattle.store.proofs.eeprom.EepromStore.write.Goals as goal
 

@@ -2,7 +2,7 @@
 use Rattle.std.proofs.Common.{◌≡◌, ℕ, ◌+◌, ◌<◌, ◌≤◌, true, List, [], ◌∷◌, length, get_or, Some, None, Ok, Option, sym, refl, ap, ◌∙◌, subst, ⊎_elim, arith}
 use Rattle.std.proofs.lemmas.List.{get_or_past}
 use Rattle.std.proofs.lemmas.Bool.{cases_lt}
-use Rattle.std.specs.List.{AllByRecursion as All}
+use Rattle.std.specs.List.{AllByRecursion}
 use Rattle.isa.specs.declared.instruction.Instruction.{Instruction}
 use Rattle.isa.specs.declared.instruction.Instruction.TheVariants.{Go, Jump, JumpLow, Act}
 use Rattle.isa.specs.Checks.{and_then}
@@ -110,8 +110,8 @@ AimedItem s i = Aimed s i.source.instruction i.instruction
 pub aimed_line : (s : Plan) (x : Source) (i : Instruction ℕ) → length s.kinds ≡ image_size → Sound (Holds x) → resolve_line s x ≡ Ok i → Aimed s x.instruction i
 aimed_line s x i n r e = aims s x.line x.column n x.instruction i r e
 
-pub all_aimed : (ls : List Line) (t s s' : Plan) (is : List Item) → length t.kinds ≡ image_size → All Sound ls → placing ls s ≡ Ok s' → resolved t ls s.next ≡ Ok is → All (AimedItem t) is × Stand ls s.next is
-all_aimed [] t s s' is k so e r = subst (λ is. All (AimedItem t) is × Stand [] s.next is) (ok_ok _ _ r) (tt, refl)
+pub all_aimed : (ls : List Line) (t s s' : Plan) (is : List Item) → length t.kinds ≡ image_size → AllByRecursion Sound ls → placing ls s ≡ Ok s' → resolved t ls s.next ≡ Ok is → AllByRecursion (AimedItem t) is × Stand ls s.next is
+all_aimed [] t s s' is k so e r = subst (λ is. AllByRecursion (AimedItem t) is × Stand [] s.next is) (ok_ok _ _ r) (tt, refl)
 all_aimed (Blank ∷ ls) t s s' is k so e r = all_aimed ls t s s' is k so.1 e r
 all_aimed (Opens l p ∷ ls) t s s' is k so e r =
     let a = ok_then (step (Opens l p) s) (placing ls) s' e in
@@ -122,5 +122,5 @@ all_aimed (Holds x ∷ ls) t s s' is k so e r =
     let b = became t x ls s.next is r in
     let m = aimed_line t x b.made k so.0 b.resolves in
     let ih = all_aimed ls t (laid x s c.labels) s' b.rest k so.1 (subst (λ y. placing ls y ≡ Ok s') (sym c.same) a.2) b.more in
-    subst (λ is. All (AimedItem t) is × Stand (Holds x ∷ ls) s.next is) b.same
+    subst (λ is. AllByRecursion (AimedItem t) is × Stand (Holds x ∷ ls) s.next is) b.same
     ((m, ih.0), (refl, refl, refl, c.written, subst (λ w. Stand ls (s.next + w) b.rest) (sym m.same_width) ih.1))

@@ -4,7 +4,7 @@ use lib.ListN.{length-replicate}
 use lib.Seq.{sets}
 use Rattle.std.proofs.lemmas.Bool.{and_parts, cases_eq, cases_lt}
 use Rattle.std.proofs.lemmas.List.{get_or-replicate, set_past}
-use Rattle.std.specs.List.{AllByRecursion as All}
+use Rattle.std.specs.List.{AllByRecursion}
 use Rattle.isa.specs.Checks.{and_then, require}
 use Rattle.isa.specs.Places.{every}
 use Rattle.sequence.specs.declared.text.Kind.{Kind}
@@ -35,7 +35,7 @@ every_at t (suc n) p zero h l = ap t (let x : p + 0 ≡ p = omega arith in x) �
 every_at t (suc n) p (suc k) h l = ap t (let x : p + suc k ≡ suc p + k = omega arith in x) ∙ every_at t n (suc p) k (and_parts _ _ h).1 (omega arith)
 
 -- what holds of all items holds of one
-pub all_in : (P : Item → Type 0) (is : List Item) → All P is → (i : Item) → In i is → P i
+pub all_in : (P : Item → Type 0) (is : List Item) → AllByRecursion P is → (i : Item) → In i is → P i
 all_in P [] a i m = absurd m
 all_in P (j ∷ is) a i (inl e) = subst P (sym e) a.0
 all_in P (j ∷ is) a i (inr m) = all_in P is a.1 i m

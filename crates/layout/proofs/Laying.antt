@@ -3,7 +3,7 @@ use Rattle.std.proofs.Common.{◌≡◌, ℕ, ◌+◌, ◌<◌, ◌≤◌, true,
 use lib.ListN.{length-replicate}
 use Rattle.std.proofs.lemmas.List.{get_or_past, get_or-replicate}
 use Rattle.std.proofs.lemmas.Bool.{cases_lt}
-use Rattle.std.specs.List.{AllByRecursion as All}
+use Rattle.std.specs.List.{AllByRecursion}
 use Rattle.isa.specs.declared.refusal.Refusal.TheVariants.{Size}
 use Rattle.isa.specs.Checks.{require}
 use Rattle.isa.specs.Places.{image_size, user}
@@ -41,7 +41,7 @@ none_yet q e =
     let z : ◌≡◌ {A = ℕ} 0 1 = cc in omega arith
 
 -- of lines that were placed and whose targets were found
-module _ (ls : List Line) (s : Plan) (is : List Item) (so : All Sound ls) (e : placing ls fresh ≡ Ok s) (r : resolved s ls 0 ≡ Ok is) where
+module _ (ls : List Line) (s : Plan) (is : List Item) (so : AllByRecursion Sound ls) (e : placing ls fresh ≡ Ok s) (r : resolved s ls 0 ≡ Ok is) where
   size : length s.kinds ≡ image_size
   size = placing_size ls fresh s e ∙ fresh_size
 
@@ -92,7 +92,7 @@ lays_out text t e =
     let f = planned_splits 1 (lines text) fresh b.0 b.1 in
     let g = assembled_splits b.0 1 (lines text) 0 blank c.0 c.1 in
     let ls = f.0 in let s = b.0 in let is = g.2.0 in
-    let so : All Sound ls = parsed_sound 1 (lines text) ls f.1 in
+    let so : AllByRecursion Sound ls = parsed_sound 1 (lines text) ls f.1 in
     let same : g.0 ≡ ls = ok_ok _ _ (sym g.1 ∙ f.1) in
     let r : resolved s ls 0 ≡ Ok is = subst (λ ls. resolved s ls 0 ≡ Ok is) same g.2.1 in
     let whole = ok_ok _ _ c.2 in

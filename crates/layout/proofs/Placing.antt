@@ -4,7 +4,7 @@ use lib.Seq.{length-sets}
 use Rattle.std.proofs.ByRecursion.{All-weaker}
 use Rattle.std.proofs.lemmas.Bool.{cases_lt}
 use Rattle.std.proofs.lemmas.Bool.Decides.{nat_tests}
-use Rattle.std.specs.List.{AllByRecursion as All}
+use Rattle.std.specs.List.{AllByRecursion}
 use Rattle.isa.specs.declared.instruction.Instruction.{Instruction}
 use Rattle.isa.specs.Places.{image_size, user, every}
 use Rattle.isa.specs.Codes.{width}
@@ -39,7 +39,7 @@ met ls s = cond (ends ls) (closed s) s.kinds
 
 -- what placing tells of the items, from the kinds that they meet, those before, and those after
 pub record Placed (m before after : List Kind) (is : List Item) : Type 0 where
-  pub fits : All (Fits m) is
+  pub fits : AllByRecursion (Fits m) is
   pub apart : AllApart is
   pub firsts : (q : ℕ) → get_or after q Free ≡ First → (get_or before q Free ≡ First) ⊎ ((j : Item) × In j is × (j.place ≡ q))
 
@@ -62,7 +62,7 @@ apart_by m i j claims fits =
     (λ (g : stop i ≤ j.place). inl g) (cases_lt j.place (stop i)))
     (cases_lt j.place i.place)
 
-apart_all : (m : List Kind) (i : Item) → Claims m i → (is : List Item) → All (Fits m) is → ApartFrom i is
+apart_all : (m : List Kind) (i : Item) → Claims m i → (is : List Item) → AllByRecursion (Fits m) is → ApartFrom i is
 apart_all m i claims [] f = tt
 apart_all m i claims (j ∷ is) f = (apart_by m i j claims f.0, apart_all m i claims is f.1)
 
@@ -163,7 +163,7 @@ module _ (t s : Plan) (x : Source) (lab : List Label) (i : Instruction ℕ) (len
         (p.firsts q h);
   }
 
-pub placed : (ls : List Line) (t s s' : Plan) (is : List Item) → length t.kinds ≡ image_size → All Sound ls → length s.kinds ≡ image_size → placing ls s ≡ Ok s' → resolved t ls s.next ≡ Ok is → Placed (met ls s) s.kinds s'.kinds is
+pub placed : (ls : List Line) (t s s' : Plan) (is : List Item) → length t.kinds ≡ image_size → AllByRecursion Sound ls → length s.kinds ≡ image_size → placing ls s ≡ Ok s' → resolved t ls s.next ≡ Ok is → Placed (met ls s) s.kinds s'.kinds is
 placed [] t s s' is lt so len e r =
     subst (λ (y : Plan). Placed (closed s) s.kinds y.kinds is) (ok_ok _ _ e)
     (subst (λ y. Placed (closed s) s.kinds s.kinds y) (ok_ok _ _ r)
@@ -174,7 +174,7 @@ placed (Opens l p ∷ ls) t s s' is lt so len e r =
     let c = step_opens l p s a.0 a.1 in
     let ih = placed ls t (opening p s) s' is lt so.1 (closed_size s ∙ len) (subst (λ y. placing ls y ≡ Ok s') (sym c) a.2) r in
     record {
-      fits = subst (λ y. All (Fits y) is) (same_arms (ends ls) (closed s)) ih.fits;
+      fits = subst (λ y. AllByRecursion (Fits y) is) (same_arms (ends ls) (closed s)) ih.fits;
       apart = ih.apart;
       firsts = λ q h. ⊎_elim (λ (g : get_or (closed s) q Free ≡ First). inl (closed_first s q g)) (λ g. inr g) (ih.firsts q h);
     }

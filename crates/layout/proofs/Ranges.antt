@@ -2,7 +2,7 @@
 -- line becomes.
 use Rattle.std.proofs.Common.{◌≡◌, ℕ, ◌+◌, ◌≤◌, Bool, true, false, cond, eqb, leb, List, [], ◌∷◌, length, ℤ, Some, None, Ok, Err, codes, Option, Result, refl, ap, subst, arith}
 use Rattle.std.proofs.lemmas.Bool.Decides.{nat_tests}
-use Rattle.std.specs.List.{AllByRecursion as All}
+use Rattle.std.specs.List.{AllByRecursion}
 use Rattle.std.specs.Str.{bytes_eq}
 use Rattle.isa.specs.declared.refusal.Refusal.TheVariants.{Character, Long}
 use Rattle.isa.specs.declared.shape.Shape.{Shape}
@@ -109,9 +109,9 @@ line_sound l bs x e =
     let b = ok_then (require (eqb (first_bad 1 bs) 0) (text_fault Character l (first_bad 1 bs))) _ x a.2 in
     taken_sound l (tokens 1 true bs) x b.2
 
-pub parsed_sound : (l : ℕ) (bs : List (List ℕ)) (ls : List Line) → parsed_all l bs ≡ Ok ls → All Sound ls
-parsed_sound l [] ls e = subst (All Sound) (ok_ok _ _ e) tt
+pub parsed_sound : (l : ℕ) (bs : List (List ℕ)) (ls : List Line) → parsed_all l bs ≡ Ok ls → AllByRecursion Sound ls
+parsed_sound l [] ls e = subst (AllByRecursion Sound) (ok_ok _ _ e) tt
 parsed_sound l (b ∷ bs) ls e =
     let a = ok_then (parsed l b) _ ls e in
     let d = ok_then (parsed_all (l + 1) bs) _ ls a.2 in
-    subst (All Sound) (ok_ok _ _ d.2) (line_sound l b a.0 a.1, parsed_sound (l + 1) bs d.0 d.1)
+    subst (AllByRecursion Sound) (ok_ok _ _ d.2) (line_sound l b a.0 a.1, parsed_sound (l + 1) bs d.0 d.1)

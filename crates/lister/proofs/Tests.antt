@@ -3,7 +3,7 @@ use Rattle.std.proofs.Common.{◌≡◌, ℕ, ◌<◌, ◌≤◌, Bool, true, fa
 use lib.ListN.{length-replicate}
 use Rattle.std.proofs.lemmas.List.{get_or-replicate}
 use Rattle.std.proofs.lemmas.Bool.{cases_eq, eq-eqb, eqb-true, ne_eqb, le-leb, leb-true, and_from, or_right}
-use Rattle.std.specs.List.{AllByRecursion as All}
+use Rattle.std.specs.List.{AllByRecursion}
 use Rattle.isa.specs.declared.refusal.Refusal.TheVariants.{Size, Target}
 use Rattle.isa.specs.Checks.{and_then, require}
 use Rattle.isa.specs.Instructions.{target_of}
@@ -41,7 +41,7 @@ first_is all (Some t) h =
     plain true = refl
     plain false = refl
 
-checks : (all fs : List Found) → All (λ (f : Found). in_range f.instruction ≡ true) fs → and_then (checked_all (marked all blank) fs) (λ _. Ok all) ≡ aimed all fs
+checks : (all fs : List Found) → AllByRecursion (λ (f : Found). in_range f.instruction ≡ true) fs → and_then (checked_all (marked all blank) fs) (λ _. Ok all) ≡ aimed all fs
 checks all [] a = refl
 checks all (f ∷ fs) a =
     ap (λ b. and_then (and_then (cond b (Ok (tt {0})) (Err (image_fault Target f.place))) (λ _. checked_all (marked all blank) fs)) (λ _. Ok all)) (first_is all (target_of f.instruction) (target_low f.instruction a.0))

@@ -4,7 +4,7 @@ use lib.ListN.{length-replicate}
 use lib.Seq.{sets, length-sets}
 use Rattle.std.proofs.lemmas.Bool.{and_from, le-leb, eqb-true, or_cases, cases_lt, both_ways}
 use Rattle.std.proofs.lemmas.List.{ext_get_or, get_or-replicate}
-use Rattle.std.specs.List.{AllByRecursion as All}
+use Rattle.std.specs.List.{AllByRecursion}
 use Rattle.isa.specs.declared.refusal.Refusal.TheVariants.{Size, Target as Astray}
 use Rattle.isa.specs.declared.instruction.Instruction.{Instruction}
 use Rattle.isa.specs.declared.instruction.Instruction.TheVariants.{Go, Jump, JumpLow, Act}
@@ -51,7 +51,7 @@ painted_all [] im = im
 painted_all (f ∷ fs) im = painted_all fs (sets im f.place (encoded f.instruction))
 
 -- the second pass over a listing
-assembles : (s : Plan) (fs : List Found) (l n : ℕ) (used : Bool) (im : List ℕ) → Chain used n fs → All Fine fs → All (λ (f : Found). Goes s f.instruction) fs → assembled s l (text_lines fs) n im ≡ Ok (painted_all fs im)
+assembles : (s : Plan) (fs : List Found) (l n : ℕ) (used : Bool) (im : List ℕ) → Chain used n fs → AllByRecursion Fine fs → AllByRecursion (λ (f : Found). Goes s f.instruction) fs → assembled s l (text_lines fs) n im ≡ Ok (painted_all fs im)
 assembles s [] l n used im c a g = refl
 assembles s (f ∷ fs) l n used im c a g = go f.opens refl (λ k. assembles s fs k (p + width i) true (sets im p (encoded i)) c.2 a.1 g.1)
   where
@@ -100,7 +100,7 @@ write_back im q f base V room stands o = ⊎_elim (λ (h : q < f.place). off (in
         subst (λ y. get_or (sets base f.place bytes) y 255 ≡ get_or im y 255) x e
 
 -- all of them are written
-paint_back : (im : List ℕ) (q : ℕ) (fs : List Found) (base : List ℕ) (used : Bool) (n : ℕ) → length base ≡ 2048 → Chain used n fs → All (Stands im) fs → (get_or base q 255 ≡ get_or im q 255) ⊎ Covered fs q → get_or (painted_all fs base) q 255 ≡ get_or im q 255
+paint_back : (im : List ℕ) (q : ℕ) (fs : List Found) (base : List ℕ) (used : Bool) (n : ℕ) → length base ≡ 2048 → Chain used n fs → AllByRecursion (Stands im) fs → (get_or base q 255 ≡ get_or im q 255) ⊎ Covered fs q → get_or (painted_all fs base) q 255 ≡ get_or im q 255
 paint_back im q [] base used n len c a (inl e) = e
 paint_back im q [] base used n len c a (inr v) = absurd v
 paint_back im q (f ∷ fs) base used n len c a o =
@@ -113,21 +113,21 @@ painted_size [] im = refl
 painted_size (f ∷ fs) im = painted_size fs (sets im f.place (encoded f.instruction)) ∙ length-sets im f.place (encoded f.instruction)
 
 -- the test of targets
-aims_tell : (all fs out : List Found) → aimed all fs ≡ Ok out → (all ≡ out) × All (λ (f : Found). begun all (target_of f.instruction) ≡ true) fs
+aims_tell : (all fs out : List Found) → aimed all fs ≡ Ok out → (all ≡ out) × AllByRecursion (λ (f : Found). begun all (target_of f.instruction) ≡ true) fs
 aims_tell all [] out e = (ok_ok all out e, tt)
 aims_tell all (f ∷ fs) out e = go (begun all (target_of f.instruction)) refl (aims_tell all fs out) e
   where
-    go : (t : Bool) → begun all (target_of f.instruction) ≡ t → (aimed all fs ≡ Ok out → (all ≡ out) × All (λ (f : Found). begun all (target_of f.instruction) ≡ true) fs)
-        → cond t (aimed all fs) (Err (image_fault Astray f.place)) ≡ Ok out → (all ≡ out) × All (λ (f : Found). begun all (target_of f.instruction) ≡ true) (f ∷ fs)
+    go : (t : Bool) → begun all (target_of f.instruction) ≡ t → (aimed all fs ≡ Ok out → (all ≡ out) × AllByRecursion (λ (f : Found). begun all (target_of f.instruction) ≡ true) fs)
+        → cond t (aimed all fs) (Err (image_fault Astray f.place)) ≡ Ok out → (all ≡ out) × AllByRecursion (λ (f : Found). begun all (target_of f.instruction) ≡ true) (f ∷ fs)
     go true q ih e = let d = ih e in (d.0, (q, d.1))
     go false q ih e = let z : ◌≡◌ {A = ℕ} 0 1 = cc in absurd (omega arith)
 
-begins_first : (s : Plan) (fs : List Found) → All (λ (f : Found). get_or s.kinds f.place Free ≡ First) fs → (q : ℕ) → begins fs q ≡ true → get_or s.kinds q Free ≡ First
+begins_first : (s : Plan) (fs : List Found) → AllByRecursion (λ (f : Found). get_or s.kinds f.place Free ≡ First) fs → (q : ℕ) → begins fs q ≡ true → get_or s.kinds q Free ≡ First
 begins_first s [] a q e = absurd (both_ways false refl e)
 begins_first s (f ∷ fs) a q e =
     ⊎_elim (λ (h : eqb f.place q ≡ true). ap (λ p. get_or s.kinds p Free) (sym (eqb-true _ _ h)) ∙ a.0) (λ h. begins_first s fs a.1 q h) (or_cases (eqb f.place q) (begins fs q) e)
 
-goes_on : (s : Plan) (all : List Found) → ((q : ℕ) → begins all q ≡ true → get_or s.kinds q Free ≡ First) → (fs : List Found) → All (λ (f : Found). begun all (target_of f.instruction) ≡ true) fs → All (λ (f : Found). Goes s f.instruction) fs
+goes_on : (s : Plan) (all : List Found) → ((q : ℕ) → begins all q ≡ true → get_or s.kinds q Free ≡ First) → (fs : List Found) → AllByRecursion (λ (f : Found). begun all (target_of f.instruction) ≡ true) fs → AllByRecursion (λ (f : Found). Goes s f.instruction) fs
 goes_on s all h [] a = tt
 goes_on s all h (f ∷ fs) a = (λ q e. h q (subst (λ o. begun all o ≡ true) e a.0), goes_on s all h fs a.1)
 
@@ -138,7 +138,7 @@ passes text s im z p e =
     ∙ ap (λ o. and_then o (λ s. and_then (assembled s 1 (lines text) 0 blank) (λ im. Ok (record { image = im; labels = s.labels; count = s.count })))) p
     ∙ ap (λ o. and_then o (λ im. Ok (record { image = im; labels = s.labels; count = s.count }))) e
 
-sized : (fs : List Found) → length (printed fs) ≤ 16384 → Chain false 0 fs → All Fine fs → sized_text (printed fs) ≡ true
+sized : (fs : List Found) → length (printed fs) ≤ 16384 → Chain false 0 fs → AllByRecursion Fine fs → sized_text (printed fs) ≡ true
 sized fs bytes c fine =
     let ls = printed_lines fs fine in
     let few = few_lines fs false 0 (omega arith) c in
@@ -155,12 +155,12 @@ same_image im fs len d =
 
 -- instructions of which every target is one of their places
 abbrev pub Aims : List Found → Type 0
-Aims fs = All (λ (f : Found). begun fs (target_of f.instruction) ≡ true) fs
+Aims fs = AllByRecursion (λ (f : Found). begun fs (target_of f.instruction) ≡ true) fs
 
 translated : (im : List ℕ) (fs : List Found) → length im ≡ 2048 → length (printed fs) ≤ 16384 → Contains im fs → Aims fs → (t : Translation) × (translation (printed fs) ≡ Ok t) × (t.image ≡ im)
 translated im fs len bytes d tests = go (listing_planned fs d.chain fine)
   where
-    fine : All Fine fs
+    fine : AllByRecursion Fine fs
     fine = all_fine fs false 0 d.chain d.range
 
     ls : lines (printed fs) ≡ text_lines fs

@@ -1,7 +1,7 @@
 -- Instructions that come one after the other, upward.
 use Rattle.std.proofs.Common.{◌≡◌, ℕ, ◌+◌, ◌<◌, ◌≤◌, Bool, true, false, List, [], ◌∷◌, arith}
 use Rattle.std.proofs.lemmas.Bool.Decides.{nat_tests}
-use Rattle.std.specs.List.{AllByRecursion as All}
+use Rattle.std.specs.List.{AllByRecursion}
 use Rattle.isa.specs.declared.instruction.Instruction.{Instruction}
 use Rattle.isa.specs.Places.{user}
 use Rattle.isa.specs.Codes.{width, in_range}
@@ -34,6 +34,6 @@ Ranged f = in_range f.instruction ≡ true
 abbrev pub Fine : Found → Type 0
 Fine f = (f.place < 2048) × Ranged f
 
-pub all_fine : (fs : List Found) (used : Bool) (n : ℕ) → Chain used n fs → All Ranged fs → All Fine fs
+pub all_fine : (fs : List Found) (used : Bool) (n : ℕ) → Chain used n fs → AllByRecursion Ranged fs → AllByRecursion Fine fs
 all_fine [] used n c a = tt
 all_fine (f ∷ fs) used n c a = ((let u = user_low (f.place + 0) (c.1 0 (omega arith)) in omega arith, a.0), all_fine fs true (f.place + width f.instruction) c.2 a.1)

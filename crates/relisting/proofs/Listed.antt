@@ -2,7 +2,7 @@
 use Rattle.std.proofs.Common.{◌≡◌, ℕ, zero, suc, ◌+◌, ◌-◌, ◌<◌, ◌≤◌, Bool, true, false, cond, not, ◌&&◌, eqb, ◌⊎◌, List, [], ◌∷◌, length, get_or, take, Some, None, Ok, Option, Result, sym, refl, ap, ◌∙◌, subst, ⊎_elim, arith}
 use Rattle.std.proofs.lemmas.Bool.{cases_lt, eq-eqb, or_left, or_right, cond-true, cond-false, both_ways}
 use Rattle.std.proofs.lemmas.List.{length-take-le, get_or-take, ext_get_or, take_all}
-use Rattle.std.specs.List.{AllByRecursion as All}
+use Rattle.std.specs.List.{AllByRecursion}
 use Rattle.std.specs.Option.{option_map}
 use Rattle.isa.specs.declared.refusal.Refusal.TheVariants.{Area}
 use Rattle.isa.specs.declared.shape.Shape.{Shape}
@@ -71,7 +71,7 @@ seen_mark p s h = cond-true _ _ _ (eq-eqb _ _ h)
 record Reading (is : List Item) (m : ℕ) (out : Result (List Found) ImageFault) : Type 0 where
   reads : List Found
   good : out ≡ Ok reads
-  sound : All (λ (f : Found). (i : Item) × In i is × (i.instruction ≡ f.instruction)) reads
+  sound : AllByRecursion (λ (f : Found). (i : Item) × In i is × (i.instruction ≡ f.instruction)) reads
   full : (i : Item) → In i is → m ≤ i.place → begins reads i.place ≡ true
 
 -- an instruction that begins no earlier is the one just read, or is read after it
@@ -149,7 +149,7 @@ module _ (is : List Item) (im : List ℕ) (l : Laid is im) where
           (same_or_apart is l.apart i j m n))
           (λ _. ap user e ∙ l.users i m (width i.instruction) (omega arith)))
 
-  aims_pass : (all : List Found) → ((i : Item) → In i is → begins all i.place ≡ true) → (fs : List Found) → All (λ (f : Found). (i : Item) × In i is × (i.instruction ≡ f.instruction)) fs → aimed all fs ≡ Ok all
+  aims_pass : (all : List Found) → ((i : Item) → In i is → begins all i.place ≡ true) → (fs : List Found) → AllByRecursion (λ (f : Found). (i : Item) × In i is × (i.instruction ≡ f.instruction)) fs → aimed all fs ≡ Ok all
   aims_pass all full [] a = refl
   aims_pass all full (f ∷ fs) a = cond-true _ _ _ (go (target_of f.instruction) refl) ∙ aims_pass all full fs a.1
     where

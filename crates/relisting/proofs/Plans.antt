@@ -4,7 +4,7 @@ use lib.ListN.{length-replicate}
 use lib.Seq.{length-sets}
 use Rattle.std.proofs.lemmas.Bool.{and_from, eq-eqb, both_ways, cases_lt}
 use Rattle.std.proofs.lemmas.List.{get_or-replicate, get_or_past}
-use Rattle.std.specs.List.{AllByRecursion as All}
+use Rattle.std.specs.List.{AllByRecursion}
 use Rattle.isa.specs.declared.refusal.Refusal.TheVariants.{Stale, Area, Overlap}
 use Rattle.isa.specs.declared.instruction.Instruction.{Instruction}
 use Rattle.isa.specs.declared.instruction.Instruction.TheVariants.{Go, Jump, JumpLow, Act}
@@ -54,7 +54,7 @@ pub record Run (n : ℕ) (ls : List (List ℕ)) (fs : List Found) (st : Plan) : 
   pub after : Plan
   pub runs : planned n ls st ≡ Ok after
   pub below : (q : ℕ) → q < st.next → get_or after.kinds q Free ≡ get_or st.kinds q Free
-  pub firsts : All (λ (f : Found). get_or after.kinds f.place Free ≡ First) fs
+  pub firsts : AllByRecursion (λ (f : Found). get_or after.kinds f.place Free ≡ First) fs
 
 closed_size : (s : Plan) → length (closed s) ≡ length s.kinds
 closed_size s = go s.used
@@ -136,7 +136,7 @@ module _ (f : Found) (fs : List Found) (ls : List (List ℕ)) (us : Users f) (fi
         firsts = d.firsts;
       }
 
-runs : (fs : List Found) (n : ℕ) (st : Plan) → Ready st → Chain st.used st.next fs → All Fine fs → Run n (text_lines fs) fs st
+runs : (fs : List Found) (n : ℕ) (st : Plan) → Ready st → Chain st.used st.next fs → AllByRecursion Fine fs → Run n (text_lines fs) fs st
 runs [] n st ok c a = record { after = st; runs = refl; below = λ q h. refl; firsts = tt }
 runs (f ∷ fs) n st ok c a = go f.opens refl (λ m s k u e. runs fs m s k (subst (λ t. Chain t s.next fs) (sym u) (subst (λ p. Chain true p fs) (sym e) c.2)) a.1)
   where
@@ -146,7 +146,7 @@ runs (f ∷ fs) n st ok c a = go f.opens refl (λ m s k u e. runs fs m s k (subs
     go false e ih = let b = c.0.follows e in run_line f fs (text_lines fs) c.1 a.0 n st ok (ok.going b.0) (sym b.1) (ih (n + 1))
 
 -- the first pass over a listing
-pub listing_planned : (fs : List Found) → Chain false 0 fs → All Fine fs → Run 1 (text_lines fs) fs fresh
+pub listing_planned : (fs : List Found) → Chain false 0 fs → AllByRecursion Fine fs → Run 1 (text_lines fs) fs fresh
 listing_planned fs c a = runs fs 1 fresh (record { size = length-replicate {A = Kind} 2048 Free; empty = λ q h. frees q; going = λ t. absurd (both_ways false refl t) }) c a
   where
     frees : (q : ℕ) → get_or fresh.kinds q Free ≡ Free

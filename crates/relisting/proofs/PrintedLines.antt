@@ -3,7 +3,7 @@ use Rattle.std.proofs.Common.{◌≡◌, ℕ, suc, ◌+◌, ◌*◌, ◌<◌, �
 use Rattle.std.proofs.lemmas.Bool.{and_parts, and_from, eq-eqb, le-leb, cond-true, cond-false}
 use Rattle.std.proofs.lemmas.List.{append-nil, append_assoc, length-append}
 use Rattle.std.proofs.lemmas.Bool.Decides.{nat_tests}
-use Rattle.std.specs.List.{AllByRecursion as All}
+use Rattle.std.specs.List.{AllByRecursion}
 use Rattle.isa.specs.declared.refusal.Refusal.TheVariants.{Character, Long as TooLong}
 use Rattle.isa.specs.declared.shape.Shape.{Shape}
 use Rattle.isa.specs.declared.shape.Shape.TheVariants.{Byte, Pair as Both, Word as Double, Target, TargetByte, Signed, Long}
@@ -64,7 +64,7 @@ Reads i ts k = (h : Head) (c : ℕ) → lettered h (letter_of i) c ts (shape_of 
 -- what is needed of an instruction to print it and to read it again
 pub record Spelt (i : Instruction ℕ) : Type 0 where
   pub text : instruction_text i ≡ letter_of i ∷ spaced (shown i)
-  pub short : All Short (shown i)
+  pub short : AllByRecursion Short (shown i)
   pub few : length (shown i) ≤ 2
   pub letter : (plain (letter_of i) ≡ true) × (is_label (letter_of i ∷ []) ≡ false) × (allowed (letter_of i) ≡ true)
   pub reads : (k : ℕ) → Reads i (pieces k (shown i)) (column_from k (shown i))
@@ -148,7 +148,7 @@ spelt (Act (Index Minus n)) r =
     record { text = refl; short = (h, tt); few = omega arith; letter = (refl, refl, refl); reads = λ k f c. one_read f c k 45 (Act (Index Minus n)) Long false (pos n) (operand_signed (pos n) h) e }
 
 -- the tokens of a word and the numbers after it
-tokens_of : (k : ℕ) (w : List ℕ) (zs : List ℤ) → 1 ≤ length w → every plain w ≡ true → All Short zs → tokens k true (w ++ spaced zs) ≡ record { column = k; bytes = w } ∷ pieces (k + length w + 1) zs
+tokens_of : (k : ℕ) (w : List ℕ) (zs : List ℤ) → 1 ≤ length w → every plain w ≡ true → AllByRecursion Short zs → tokens k true (w ++ spaced zs) ≡ record { column = k; bytes = w } ∷ pieces (k + length w + 1) zs
 tokens_of k w [] s p a = ap (tokens k true) (append-nil w) ∙ last k w s p
 tokens_of k w (z ∷ zs) s p a =
     let sw = signed_word z a.0 in
@@ -162,11 +162,11 @@ every-++ : (t : ℕ → Bool) (xs ys : List ℕ) → every t xs ≡ true → eve
 every-++ t [] ys a b = b
 every-++ t (x ∷ xs) ys a b = let p = and_parts (t x) (every t xs) a in and_from _ _ p.0 (every-++ t xs ys p.1 b)
 
-spaced_allowed : (zs : List ℤ) → All Short zs → every allowed (spaced zs) ≡ true
+spaced_allowed : (zs : List ℤ) → AllByRecursion Short zs → every allowed (spaced zs) ≡ true
 spaced_allowed [] a = refl
 spaced_allowed (z ∷ zs) a = every-++ allowed (signed z) (spaced zs) (signed_word z a.0).allows (spaced_allowed zs a.1)
 
-spaced_length : (zs : List ℤ) → All Short zs → length (spaced zs) ≤ 10 * length zs
+spaced_length : (zs : List ℤ) → AllByRecursion Short zs → length (spaced zs) ≤ 10 * length zs
 spaced_length [] a = omega arith
 spaced_length (z ∷ zs) a = let w = (signed_word z a.0).nine in omega (arith, spaced_length zs a.1, length-append (signed z) (spaced zs))
 

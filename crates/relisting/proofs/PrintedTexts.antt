@@ -1,7 +1,7 @@
 -- The lines of a listing, and how many there are.
 use Rattle.std.proofs.Common.{◌≡◌, ℕ, suc, ◌+◌, ◌<◌, ◌≤◌, Bool, true, false, cond, List, [], ◌∷◌, ◌++◌, length, ℤ, refl, ap, ◌∙◌, arith}
 use Rattle.std.proofs.lemmas.List.{append_assoc}
-use Rattle.std.specs.List.{AllByRecursion as All}
+use Rattle.std.specs.List.{AllByRecursion}
 use Rattle.isa.specs.Instructions.{letter_of}
 use Rattle.isa.specs.Codes.{width}
 use Rattle.sequence.specs.declared.image.Found.{Found}
@@ -23,7 +23,7 @@ text_lines (f ∷ fs) = cond f.opens (at_bytes f.place ∷ line_bytes f.place f.
 feed : (l rest : List ℕ) → every allowed l ≡ true → lines ((l ++ (10 ∷ [])) ++ rest) ≡ l ∷ lines rest
 feed l rest h = ap lines (append_assoc l (10 ∷ []) rest) ∙ line l rest h
 
-pub printed_lines : (fs : List Found) → All Fine fs → lines (printed fs) ≡ text_lines fs
+pub printed_lines : (fs : List Found) → AllByRecursion Fine fs → lines (printed fs) ≡ text_lines fs
 printed_lines [] a = refl
 printed_lines (f ∷ fs) a = go f.opens (printed_lines fs a.1)
   where
@@ -48,7 +48,7 @@ printed_lines (f ∷ fs) a = go f.opens (printed_lines fs a.1)
         ∙ feed (at_bytes p) (text ++ printed fs) (at_allowed p a.0.0) ∙ ap (λ ls. at_bytes p ∷ ls) (held e)
 
 -- no token of a listing is shaped as a label
-pieces_unlabelled : (k : ℕ) (zs : List ℤ) → All Short zs → label_tokens (pieces k zs) ≡ 0
+pieces_unlabelled : (k : ℕ) (zs : List ℤ) → AllByRecursion Short zs → label_tokens (pieces k zs) ≡ 0
 pieces_unlabelled k [] a = refl
 pieces_unlabelled k (z ∷ zs) a =
     let w = signed_word z a.0 in
@@ -64,7 +64,7 @@ line_unlabelled f h =
     let b : ◌≡◌ {A = ℕ} (cond (is_label (letter_of f.instruction ∷ [])) 1 0) 0 = ap (λ t. cond t 1 0) s.letter.1 in
     (ap label_tokens (line_tokens f.place h.0 f.instruction h.1) ∙ omega arith, ap label_tokens (at_tokens f.place h.0) ∙ omega arith)
 
-pub no_labels : (fs : List Found) → All Fine fs → labels_in (text_lines fs) ≡ 0
+pub no_labels : (fs : List Found) → AllByRecursion Fine fs → labels_in (text_lines fs) ≡ 0
 no_labels [] a = refl
 no_labels (f ∷ fs) a = go f.opens (line_unlabelled f a.0) (no_labels fs a.1)
   where

@@ -2,7 +2,7 @@
 use Rattle.std.proofs.Common.{◌≡◌, ℕ, zero, suc, ◌+◌, ◌-◌, ◌<◌, ◌≤◌, Bool, true, false, cond, not, ◌&&◌, eqb, ◌⊎◌, List, [], ◌∷◌, length, get_or, take, Some, None, Ok, Err, Option, Result, sym, refl, ap, ◌∙◌, subst, inl, inr, ⊎_elim, arith}
 use Rattle.std.proofs.lemmas.Bool.{cases_lt, eqb-true, not-false, both_ways}
 use Rattle.std.proofs.lemmas.List.{length-take-le, get_or-take}
-use Rattle.std.specs.List.{AllByRecursion as All}
+use Rattle.std.specs.List.{AllByRecursion}
 use Rattle.std.specs.Option.{option_map}
 use Rattle.isa.specs.declared.refusal.Refusal.{Refusal}
 use Rattle.isa.specs.declared.refusal.Refusal.TheVariants.{Area}
@@ -143,9 +143,9 @@ record Comes (inside used : Bool) (n m : ℕ) : Type 0 where
 record Walked (im : List ℕ) (inside : Bool) (m : ℕ) (fs : List Found) : Type 0 where
   chain : (used : Bool) (n : ℕ) → Comes inside used n m → Chain used n fs
   room : inside ≡ true → user m ≡ true
-  stands : All (Stands im) fs
+  stands : AllByRecursion (Stands im) fs
   rest : (q : ℕ) → m ≤ q → q < 2048 → (get_or im q 255 ≡ 255) ⊎ Covered fs q
-  range : All Ranged fs
+  range : AllByRecursion Ranged fs
 
 module _ (im : List ℕ) (small : Bytes im) where
   abbrev Rest : ℕ → List ℕ → Type 0
@@ -226,9 +226,9 @@ module _ (im : List ℕ) (small : Bytes im) where
 -- what a walk over a whole image has read
 pub record Contains (im : List ℕ) (fs : List Found) : Type 0 where
   pub chain : Chain false 0 fs
-  pub stands : All (Stands im) fs
+  pub stands : AllByRecursion (Stands im) fs
   pub rest : (q : ℕ) → q < 2048 → (get_or im q 255 ≡ 255) ⊎ Covered fs q
-  pub range : All Ranged fs
+  pub range : AllByRecursion Ranged fs
 
 pub whole_walk : (im : List ℕ) (fs : List Found) → length im ≡ 2048 → Bytes im → walk 0 false 0 im ≡ Ok fs → Contains im fs
 whole_walk im fs len small e =

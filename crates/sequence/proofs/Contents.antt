@@ -9,7 +9,7 @@ use Rattle.isa.specs.Shapes.{width_of}
 use Rattle.isa.specs.Table.{shape_of}
 use Rattle.isa.specs.Codes.{width, in_range, decoded}
 use Rattle.isa.proofs.RoundTrip.{decoded_in_range}
-use Rattle.std.specs.List.{AllByRecursion as All}
+use Rattle.std.specs.List.{AllByRecursion}
 use Rattle.sequence.specs.declared.image.ImageFault.{ImageFault}
 use Rattle.sequence.specs.declared.image.Found.{Found}
 use Rattle.sequence.specs.Images.{Content, mark, code, wrong, mark_byte, ranged, lettered, image_fault, read_at, content_at, found_at, onward, is_code, further, with_found, walk}
@@ -53,15 +53,15 @@ pub code_in_range : (p : ℕ) (s : List ℕ) (i : Instruction ℕ) → content_a
 code_in_range p s i e = let x = seen p s i e in decoded_in_range (take (width_of x.shape) s) i x.decodes
 
 -- every instruction of a walk is in range
-pub walk_in_range : (s : List ℕ) (p : ℕ) (inside : Bool) (k : ℕ) (fs : List Found) → walk p inside k s ≡ Ok fs → All (λ (f : Found). in_range f.instruction ≡ true) fs
+pub walk_in_range : (s : List ℕ) (p : ℕ) (inside : Bool) (k : ℕ) (fs : List Found) → walk p inside k s ≡ Ok fs → AllByRecursion (λ (f : Found). in_range f.instruction ≡ true) fs
 walk_in_range [] p true k fs e = let z : ◌≡◌ {A = ℕ} 0 1 = cc in absurd (omega arith)
-walk_in_range [] p false k fs e = let q : [] ≡ fs = cc in subst (All (λ (f : Found). in_range f.instruction ≡ true)) q tt
+walk_in_range [] p false k fs e = let q : [] ≡ fs = cc in subst (AllByRecursion (λ (f : Found). in_range f.instruction ≡ true)) q tt
 walk_in_range (b ∷ bs) p inside (suc k) fs e = walk_in_range bs (suc p) inside k fs e
 walk_in_range (b ∷ bs) p inside zero fs e = go (content_at p (b ∷ bs)) refl (λ t k gs. walk_in_range bs (suc p) t k gs) e
   where
     go : (c : Content) → content_at p (b ∷ bs) ≡ c
-        → ((t : Bool) (k : ℕ) (gs : List Found) → walk (suc p) t k bs ≡ Ok gs → All (λ (f : Found). in_range f.instruction ≡ true) gs)
-        → onward p inside c (walk (suc p) (is_code c) (further c) bs) ≡ Ok fs → All (λ (f : Found). in_range f.instruction ≡ true) fs
+        → ((t : Bool) (k : ℕ) (gs : List Found) → walk (suc p) t k bs ≡ Ok gs → AllByRecursion (λ (f : Found). in_range f.instruction ≡ true) gs)
+        → onward p inside c (walk (suc p) (is_code c) (further c) bs) ≡ Ok fs → AllByRecursion (λ (f : Found). in_range f.instruction ≡ true) fs
     go mark q ih e = ih false 0 fs (past (inside && not (user p)) (walk (suc p) false 0 bs) e)
       where
         past : (t : Bool) (x : Result (List Found) ImageFault) → cond t (Err (image_fault Area p)) x ≡ Ok fs → x ≡ Ok fs
@@ -70,6 +70,6 @@ walk_in_range (b ∷ bs) p inside zero fs e = go (content_at p (b ∷ bs)) refl 
     go (wrong x) q ih e = let z : ◌≡◌ {A = ℕ} 0 1 = cc in absurd (omega arith)
     go (code i) q ih e = found_then (walk (suc p) true (width i - 1) bs) (ih true (width i - 1)) e
       where
-        found_then : (x : Result (List Found) ImageFault) → ((gs : List Found) → x ≡ Ok gs → All (λ (f : Found). in_range f.instruction ≡ true) gs) → with_found (found_at p inside i) x ≡ Ok fs → All (λ (f : Found). in_range f.instruction ≡ true) fs
-        found_then (Ok gs) r e = let f : found_at p inside i ∷ gs ≡ fs = cc in subst (All (λ (f : Found). in_range f.instruction ≡ true)) f (code_in_range p (b ∷ bs) i q, r gs refl)
+        found_then : (x : Result (List Found) ImageFault) → ((gs : List Found) → x ≡ Ok gs → AllByRecursion (λ (f : Found). in_range f.instruction ≡ true) gs) → with_found (found_at p inside i) x ≡ Ok fs → AllByRecursion (λ (f : Found). in_range f.instruction ≡ true) fs
+        found_then (Ok gs) r e = let f : found_at p inside i ∷ gs ≡ fs = cc in subst (AllByRecursion (λ (f : Found). in_range f.instruction ≡ true)) f (code_in_range p (b ∷ bs) i q, r gs refl)
         found_then (Err x) r e = let z : ◌≡◌ {A = ℕ} 0 1 = cc in absurd (omega arith)

@@ -1,6 +1,6 @@
 -- What it means that the lines of a text stand in an image.
 use Rattle.std.specs.Prelude.{◌≡◌, ℕ, suc, ◌+◌, ◌<◌, ◌≤◌, Bool, true, false, cond, ◌≢◌, ◌⊎◌, List, [], ◌∷◌, length, Some, None, Ok, Option, Result, slice_index_or}
-use Rattle.std.specs.List.{AllByRecursion as All}
+use Rattle.std.specs.List.{AllByRecursion}
 use Rattle.isa.specs.declared.instruction.Instruction.{Instruction}
 use Rattle.isa.specs.Checks.{and_then}
 use Rattle.isa.specs.Places.{image_size, user}
@@ -123,7 +123,7 @@ labels_of (i ∷ is) = label_of i i.source.label (labels_of is)
 -- no two of the labels have one name
 abbrev pub NamesApart : List Label → Type 0
 NamesApart [] = Unit {0}
-NamesApart (x ∷ xs) = All (λ y. y.name ≢ x.name) xs × NamesApart xs
+NamesApart (x ∷ xs) = AllByRecursion (λ y. y.name ≢ x.name) xs × NamesApart xs
 
 -- What a translation is: the lines of the text stand in the image, and the labels are theirs.
 pub record LaidOut (text : List ℕ) (t : Translation) : Type 0 where

@@ -1,11 +1,12 @@
 #!/usr/bin/env python3
 """Brings the names that this repository's specs/ and proofs/ declare to one spelling: words in snake case, types in camel case.
 
-usage: python3 tools/respell.py [--dry]     at the top of the repository, once, right after the toolchain's own upgrade script
+usage: python3 tools/respell.py [--dry] [--names]     at the top of the repository, once, right after the toolchain's own upgrade script
 
 It turns the definitions, constructors, fields and lemmas that the .antt files declare, wherever .antt files and the clauses of .rt
-files cite them. Names of Rust items, strings, comments, generated goals and names that a file imports from the library stay.
-It stops if two names would become one, or if a new name already stands for something else in a file that would get it.
+files cite them. Rust items, strings of .rt files, comments and names that a file imports from the library stay. A line 'look:' names
+two names that become one, or a new name that already stands for something else in a file that gets it: read that place. --dry writes
+nothing, --names prints each name and what it becomes.
 """
 
 import collections

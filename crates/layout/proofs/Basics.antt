@@ -1,5 +1,5 @@
 -- Results, tests over places, writes to a list, and what they leave of the kinds.
-use Rattle.std.proofs.Common.{◌≡◌, ℕ, zero, suc, ◌+◌, ◌-◌, ◌<◌, ◌≤◌, Bool, true, false, cond, ◌≢◌, ◌⊎◌, List, [], ◌∷◌, length, get_or, set, replicate, Ok, Err, Result, sym, refl, ap, ◌∙◌, subst, inl, inr, ⊎_elim, arith, length-set, get_or-set_other, get_or-set_same}
+use Rattle.std.proofs.Common.{◌≡◌, ℕ, zero, suc, ◌+◌, ◌-◌, ◌<◌, ◌≤◌, Bool, true, false, cond, ◌≢◌, ◌⊎◌, List, [], ◌∷◌, ◌++◌, length, get_or, set, replicate, Ok, Err, Result, sym, refl, ap, ◌∙◌, subst, inl, inr, ⊎_elim, arith, length-set, get_or-set_other, get_or-set_same}
 use lib.ListN.{length-replicate}
 use lib.Seq.{sets}
 use Rattle.std.proofs.lemmas.Bool.{and_parts, cases_eq, cases_lt}
@@ -33,6 +33,16 @@ pub every_at : (t : ℕ → Bool) (n p k : ℕ) → every t p n ≡ true → k <
 every_at t zero p k h l = absurd (omega arith)
 every_at t (suc n) p zero h l = ap t (let x : p + 0 ≡ p = omega arith in x) ∙ (and_parts _ _ h).0
 every_at t (suc n) p (suc k) h l = ap t (let x : p + suc k ≡ suc p + k = omega arith in x) ∙ every_at t n (suc p) k (and_parts _ _ h).1 (omega arith)
+
+-- what follows from what holds of all, holds of all
+pub all_weaker : {X : Type 0} (P Q : X → Type 0) → ((x : X) → P x → Q x) → (xs : List X) → AllByRecursion P xs → AllByRecursion Q xs
+all_weaker P Q f [] h = tt
+all_weaker P Q f (x ∷ xs) h = (f x h.0, all_weaker P Q f xs h.1)
+
+-- what holds of all and of one more
+pub all_push : {X : Type 0} (P : X → Type 0) (xs : List X) (y : X) → AllByRecursion P xs → P y → AllByRecursion P (xs ++ y ∷ [])
+all_push P [] y h p = (p, tt)
+all_push P (x ∷ xs) y h p = (h.0, all_push P xs y h.1 p)
 
 -- what holds of all items holds of one
 pub all_in : (P : Item → Type 0) (is : List Item) → AllByRecursion P is → (i : Item) → In i is → P i

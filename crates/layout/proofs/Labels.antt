@@ -1,6 +1,5 @@
 -- The labels of a plan are those of its items, no two have one name, a label that is found is that of an item, and the count is that of the items.
 use Rattle.std.proofs.Common.{◌≡◌, ℕ, suc, ◌+◌, Bool, true, false, cond, ◌≢◌, List, [], ◌∷◌, ◌++◌, length, Some, None, Ok, Option, sym, refl, ap, ◌∙◌, subst, inl, inr, arith}
-use Rattle.std.proofs.ByRecursion.{All-push}
 use Rattle.std.proofs.lemmas.Slice.Eq.{bytes_eq-Decides}
 use Rattle.std.proofs.lemmas.List.{append-nil, append_assoc}
 use Rattle.std.proofs.lemmas.Bool.Decides.{not_from_Decides}
@@ -12,7 +11,7 @@ use Rattle.sequence.specs.declared.text.Line.{Line}
 use Rattle.sequence.specs.declared.text.Line.TheVariants.{Blank, Opens, Holds}
 use Rattle.sequence.specs.Placings.{Plan, place_in, is_none, defining, laid, opening, step}
 use Rattle.sequence.specs.Layouts.{Item, In, Defines, label_of, labels_of, NamesApart}
-use Rattle.layout.proofs.Basics.{ok_cond, ok_then, ok_ok}
+use Rattle.layout.proofs.Basics.{all_push, ok_cond, ok_then, ok_ok}
 use Rattle.layout.proofs.Passes.{placing, resolved, item_of, step_holds, step_opens, became}
 
 -- the item that a label is found at
@@ -71,7 +70,7 @@ name_apart x xs n = go (bytes_eq x.name n) refl
 -- such a name, put last, leaves them apart
 one_more : (xs : List Label) (y : Label) → is_none (place_in xs y.name) ≡ true → NamesApart xs → NamesApart (xs ++ (y ∷ []))
 one_more [] y e a = (tt, tt)
-one_more (x ∷ xs) y e a = let h = name_apart x xs y.name e in (All-push (λ (z : Label). z.name ≢ x.name) xs y a.0 h.0, one_more xs y h.1 a.1)
+one_more (x ∷ xs) y e a = let h = name_apart x xs y.name e in (all_push (λ (z : Label). z.name ≢ x.name) xs y a.0 h.0, one_more xs y h.1 a.1)
 
 defining_apart : (x : Source) (o : Option Definition) (s : Plan) (ls : List Label) → defining x o s ≡ Ok ls → NamesApart s.labels → NamesApart ls
 defining_apart x None s ls e a = subst NamesApart (ok_ok _ _ e) a

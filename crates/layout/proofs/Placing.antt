@@ -1,7 +1,6 @@
 -- Lines that find their places: each finds its own free, so no two share one.
 use Rattle.std.proofs.Common.{◌≡◌, ℕ, suc, ◌+◌, ◌-◌, ◌<◌, ◌≤◌, Bool, true, false, cond, ◌⊎◌, List, [], ◌∷◌, length, get_or, set, replicate, Ok, sym, refl, ap, ◌∙◌, subst, inl, inr, ⊎_elim, arith, length-set, get_or-set_same}
 use lib.Seq.{length-sets}
-use Rattle.std.proofs.ByRecursion.{All-weaker}
 use Rattle.std.proofs.lemmas.Bool.{cases_lt}
 use Rattle.std.proofs.lemmas.Bool.Decides.{nat_tests}
 use Rattle.std.specs.List.{AllByRecursion}
@@ -16,7 +15,7 @@ use Rattle.sequence.specs.declared.text.Kind.{Kind}
 use Rattle.sequence.specs.declared.text.Kind.TheVariants.{Free, First, Further, Mark}
 use Rattle.sequence.specs.Placings.{width_of, Plan, is_free, free, lay, closed, laid, opening, step}
 use Rattle.sequence.specs.Layouts.{Item, In, ends, stop, Apart, ApartFrom, AllApart}
-use Rattle.layout.proofs.Basics.{ok_then, ok_ok, every_at, free_is, lay_out, lay_on, mark_other}
+use Rattle.layout.proofs.Basics.{all_weaker, ok_then, ok_ok, every_at, free_is, lay_out, lay_on, mark_other}
 use Rattle.layout.proofs.Painting.{end_stop}
 use Rattle.layout.proofs.Passes.{placing, resolved, item_of, step_holds, step_opens, became}
 use Rattle.layout.proofs.Ranges.{Sound}
@@ -155,7 +154,7 @@ module _ (t s : Plan) (x : Source) (lab : List Label) (i : Instruction ℕ) (len
 
   more : (ls : List Line) (after : List Kind) (js : List Item) → Placed (met ls (laid x s lab)) m after js → Placed s.kinds s.kinds after (item ls ∷ js)
   more ls after js p = record {
-    fits = (head_fits ls, All-weaker (Fits (met ls (laid x s lab))) (Fits s.kinds) (λ j h k l. ((h k l).0, was_free ls (j.place + k) (h k l).1)) js p.fits);
+    fits = (head_fits ls, all_weaker (Fits (met ls (laid x s lab))) (Fits s.kinds) (λ j h k l. ((h k l).0, was_free ls (j.place + k) (h k l).1)) js p.fits);
     apart = (apart_all (met ls (laid x s lab)) (item ls) (claims ls) js p.fits, p.apart);
     firsts = λ q h. ⊎_elim
         (λ (g : get_or m q Free ≡ First). ⊎_elim (λ (k : (s.next ≤ q) × (q < s.next + w)). inr (item ls, inl refl, sym ((on q k.0 k.1).1 g))) (λ k. inl (sym k ∙ g)) (where_is q))

@@ -1,5 +1,5 @@
 -- Encoding and decoding are inverse.
-use Rattle.std.proofs.Common.{◌≡◌, ℕ, zero, suc, ◌<◌, ◌≤◌, Bool, true, false, cond, eqb, List, [], ◌∷◌, length, get_or, take, ℤ, pos, negsuc, Some, None, Ok, Err, Option, sym, refl, ap, ◌∙◌, subst, ⊎_elim, arith}
+use Rattle.std.proofs.Common.{◌≡◌, ℕ, zero, suc, ◌<◌, ◌≤◌, Bool, true, false, cond, eqb, List, [], ◌∷◌, length, get_or, take, ℤ, pos, negsuc, Some, None, Ok, Err, is_ok, Option, Result, sym, refl, ap, ◌∙◌, subst, ⊎_elim, arith}
 use Rattle.std.proofs.lemmas.Bool.{cases_eq, ne_eqb, both_ways}
 use Rattle.std.proofs.lemmas.Bool.Decides.{nat_tests}
 use Rattle.std.specs.Option.{option_map}
@@ -12,12 +12,13 @@ use Rattle.isa.specs.declared.instruction.Action.TheVariants.{Outputs, Divisor, 
 use Rattle.isa.specs.declared.instruction.Instruction.{Instruction}
 use Rattle.isa.specs.declared.instruction.Instruction.TheVariants.{Go, Jump, JumpLow, Act}
 use Rattle.isa.specs.declared.table.Entry.{Entry}
-use Rattle.isa.specs.declared.table.Entry.TheVariants.{Unknown, OutOfRange, Fits}
+use Rattle.isa.specs.declared.table.Mismatch.{Mismatch}
+use Rattle.isa.specs.declared.table.Mismatch.TheVariants.{UnknownLetter, OutOfRange}
 use Rattle.isa.specs.Shapes.{width_of, two, three, operands, operands_from}
 use Rattle.isa.specs.TwosComplement.{half24, value_of}
-use Rattle.isa.specs.Instructions.{letter_of, target_of}
-use Rattle.isa.specs.Table.{within, nat, entry_at, entry, shape_in, shape_of}
-use Rattle.isa.specs.Codes.{operand_bytes, encoded, width, fits, in_range, padded, instruction_in, decoded_as, decoded}
+use Rattle.isa.specs.Instructions.{letter_of, operands_of, target_of}
+use Rattle.isa.specs.Table.{within, nat, fit, entry_at, entry, shape_in, shape_of}
+use Rattle.isa.specs.Codes.{operand_bytes, encoded, width, in_range, padded, instruction_in, decoded_as, decoded}
 use Rattle.isa.specs.Laws.{ReadsBack, Stood}
 
 -- three bytes of which the first are those of a list
@@ -63,6 +64,23 @@ letter_width (Act Report) = refl
 letter_width (Act (Index Plus n)) = refl
 letter_width (Act (Index Minus n)) = refl
 
+-- the shape of an entry has the width of its instruction
+pub entry_width : (i : Instruction ℕ) (e : Entry) → entry (letter_of i) (operands_of i) ≡ Ok e → width_of e.shape ≡ width i
+entry_width (Go p) e h = grind (arith, nat_tests)
+entry_width (Jump p n) e h = grind (arith, nat_tests)
+entry_width (JumpLow p n) e h = grind (arith, nat_tests)
+entry_width (Act (Outputs n)) e h = grind (arith, nat_tests)
+entry_width (Act (Divisor n)) e h = grind (arith, nat_tests)
+entry_width (Act (InitialSpeed n)) e h = grind (arith, nat_tests)
+entry_width (Act (SlewSpeed n)) e h = grind (arith, nat_tests)
+entry_width (Act (Rates x d)) e h = grind (arith, nat_tests)
+entry_width (Act (Origin z)) e h = grind (arith, nat_tests)
+entry_width (Act (IndexTo z)) e h = grind (arith, nat_tests)
+entry_width (Act (Wait n)) e h = grind (arith, nat_tests)
+entry_width (Act Report) e h = grind (arith, nat_tests)
+entry_width (Act (Index Plus n)) e h = grind (arith, nat_tests)
+entry_width (Act (Index Minus n)) e h = grind (arith, nat_tests)
+
 -- what a list begins with
 front_at : (w : ℕ) (bs xs : List ℕ) (k : ℕ) → take w bs ≡ xs → w ≡ length xs → get_or xs k (get_or bs k 0) ≡ get_or bs k 0
 front_at zero bs [] k e l = refl
@@ -82,7 +100,7 @@ reads_back i r = record {
 }
 
 -- a fact about every number, letter by letter
-pub by_letter : (P : ℕ → Type 0) → P 65 → P 68 → P 71 → P 73 → P 86 → P 74 → P 75 → P 76 → P 79 → P 82 → P 87 → P 90 → P 43 → P 45 → ((l : ℕ) → ((x y : ℤ) → entry_at l x y ≡ Unknown) → P l) → (l : ℕ) → P l
+pub by_letter : (P : ℕ → Type 0) → P 65 → P 68 → P 71 → P 73 → P 86 → P 74 → P 75 → P 76 → P 79 → P 82 → P 87 → P 90 → P 43 → P 45 → ((l : ℕ) → ((x y : ℤ) → entry_at l x y ≡ Err UnknownLetter) → P l) → (l : ℕ) → P l
 by_letter P a d g i v j k l o r w z plus minus other n =
     is 65 a (λ n1. is 68 d (λ n2. is 71 g (λ n3. is 73 i (λ n4. is 86 v (λ n5. is 74 j (λ n6. is 75 k (λ n7. is 76 l (λ n8.
     is 79 o (λ n9. is 82 r (λ n10. is 87 w (λ n11. is 90 z (λ n12. is 43 plus (λ n13. is 45 minus (λ n14.
@@ -92,15 +110,15 @@ by_letter P a d g i v j k l o r w z plus minus other n =
     is m p q = ⊎_elim (λ (e : n ≡ m). subst P (sym e) p) (λ (e : n ≡ m → ⊥). q (ne_eqb n m e)) (cases_eq n m)
 
 -- what a row says of the operands t and u of one letter
-abbrev ranged : Bool → Bool → Shape → Instruction ℕ → Entry
-ranged t u s j = cond t (cond u (Fits s j) (OutOfRange s Second)) (OutOfRange s First)
+abbrev ranged : Bool → Bool → Shape → Instruction ℕ → Result Entry Mismatch
+ranged t u s j = cond t (cond u (Ok (fit s j)) (Err (OutOfRange s Second))) (Err (OutOfRange s First))
 
 row_stood : (bs : List ℕ) (t u : Bool) (s : Shape) (j i : Instruction ℕ) → take (width j) bs ≡ encoded j → (t ≡ true → u ≡ true → in_range j ≡ true) → instruction_in (ranged t u s j) ≡ Ok i → Stood bs i
 row_stood bs true true s j i b r e = let h : j ≡ i = cc in subst (Stood bs) h (record { bytes = b; range = r refl refl })
 row_stood bs true false s j i b r e = let z : ◌≡◌ {A = ℕ} 0 1 = cc in absurd (omega arith)
 row_stood bs false u s j i b r e = let z : ◌≡◌ {A = ℕ} 0 1 = cc in absurd (omega arith)
 
-in_row : (t u : Bool) (s : Shape) (j : Instruction ℕ) → t ≡ true → u ≡ true → fits (ranged t u s j) ≡ true
+in_row : (t u : Bool) (s : Shape) (j : Instruction ℕ) → t ≡ true → u ≡ true → is_ok (ranged t u s j) ≡ true
 in_row true true s j e f = refl
 in_row true false s j e f = absurd (both_ways false refl f)
 in_row false u s j e f = absurd (both_ways false refl e)
@@ -196,3 +214,11 @@ decoded_in_range bs i = go (shape_of (get_or bs 0 0))
     go : (o : Option Shape) → decoded_as o (get_or bs 0 0) (get_or bs 1 0) (get_or bs 2 0) (get_or bs 3 0) ≡ Ok i → in_range i ≡ true
     go None e = let z : ◌≡◌ {A = ℕ} 0 1 = cc in absurd (omega arith)
     go (Some s) e = entry_in_range (operands_from s (get_or bs 1 0) (get_or bs 2 0) (get_or bs 3 0)).first (operands_from s (get_or bs 1 0) (get_or bs 2 0) (get_or bs 3 0)).second (get_or bs 0 0) i e
+
+-- a letter in front of three bytes, cut to a width
+pub front_code : (l w : ℕ) (bs xs : List ℕ) → length bs ≡ 3 → take w bs ≡ xs → take (suc w) (l ∷ get_or bs 0 0 ∷ get_or bs 1 0 ∷ get_or bs 2 0 ∷ []) ≡ l ∷ xs
+front_code l w [] xs n h = absurd (omega arith)
+front_code l w (a ∷ []) xs n h = absurd (omega arith)
+front_code l w (a ∷ b ∷ []) xs n h = absurd (omega arith)
+front_code l w (a ∷ b ∷ c ∷ []) xs n h = ap (λ ys. l ∷ ys) h
+front_code l w (a ∷ b ∷ c ∷ d ∷ bs) xs n h = absurd (omega arith)

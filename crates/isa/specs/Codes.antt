@@ -1,5 +1,5 @@
 -- The bytes of an instruction.
-use Rattle.std.specs.Prelude.{ℕ, ◌/◌, ◌%◌, Bool, true, false, cond, List, [], ◌∷◌, length, Some, None, Ok, Err, Option, Result, slice_index}
+use Rattle.std.specs.Prelude.{ℕ, ◌/◌, ◌%◌, Bool, cond, List, [], ◌∷◌, length, Some, None, Ok, Err, is_ok, Option, Result, slice_index}
 use Rattle.isa.specs.declared.refusal.Refusal.{Refusal}
 use Rattle.isa.specs.declared.refusal.Refusal.TheVariants.{Range, Code as NoLetter}
 use Rattle.isa.specs.declared.shape.Shape.{Shape}
@@ -7,8 +7,9 @@ use Rattle.isa.specs.declared.instruction.Action.TheVariants.{Outputs, Divisor, 
 use Rattle.isa.specs.declared.instruction.Instruction.{Instruction}
 use Rattle.isa.specs.declared.instruction.Instruction.TheVariants.{Go, Jump, JumpLow, Act}
 use Rattle.isa.specs.declared.table.Entry.{Entry}
-use Rattle.isa.specs.declared.table.Entry.TheVariants.{Unknown, OutOfRange, Fits}
-use Rattle.isa.specs.declared.codec.Code.{Code}
+use Rattle.isa.specs.declared.table.Mismatch.{Mismatch}
+use Rattle.isa.specs.declared.table.Mismatch.TheVariants.{UnknownLetter, OutOfRange}
+use Rattle.arrayvec.specs.ArrayVec.{ArrayVec}
 use Rattle.isa.specs.TwosComplement.{half24, bits_of}
 use Rattle.isa.specs.Shapes.{operands_from}
 use Rattle.isa.specs.Instructions.{letter_of, operands_of}
@@ -43,29 +44,26 @@ encoded i = letter_of i ∷ operand_bytes i
 abbrev pub width : Instruction ℕ → ℕ
 width i = length (encoded i)
 
-abbrev pub fits : Entry → Bool
-fits Unknown = false
-fits (OutOfRange s k) = false
-fits (Fits s i) = true
-
 -- the operands are in the ranges of the table
 abbrev pub in_range : Instruction ℕ → Bool
-in_range i = fits (entry (letter_of i) (operands_of i))
+in_range i = is_ok (entry (letter_of i) (operands_of i))
 
 -- four bytes, with 0 after the instruction
 abbrev pub padded : List ℕ → List ℕ
 padded bs = slice_index bs 0 ∷ slice_index bs 1 ∷ slice_index bs 2 ∷ slice_index bs 3 ∷ []
 
-abbrev pub code_of : Instruction ℕ → Code
-code_of i = record { bytes = padded (encoded i); len = width i }
+abbrev pub encoding : Instruction ℕ → Result (List ℕ) Refusal
+encoding i = cond (in_range i) (Ok (encoded i)) (Err Range)
 
-abbrev pub encoding : Instruction ℕ → Result Code Refusal
-encoding i = cond (in_range i) (Ok (code_of i)) (Err Range)
+-- the bytes that an encoder answers
+abbrev pub code_in : Result (ArrayVec ℕ) Refusal → Result (List ℕ) Refusal
+code_in (Ok c) = Ok c.items
+code_in (Err e) = Err e
 
-abbrev pub instruction_in : Entry → Result (Instruction ℕ) Refusal
-instruction_in Unknown = Err NoLetter
-instruction_in (OutOfRange s k) = Err Range
-instruction_in (Fits s i) = Ok i
+abbrev pub instruction_in : Result Entry Mismatch → Result (Instruction ℕ) Refusal
+instruction_in (Ok e) = Ok e.instruction
+instruction_in (Err (OutOfRange s k)) = Err Range
+instruction_in (Err UnknownLetter) = Err NoLetter
 
 abbrev pub decoded_as : Option Shape → ℕ → ℕ → ℕ → ℕ → Result (Instruction ℕ) Refusal
 decoded_as None l a b c = Err NoLetter

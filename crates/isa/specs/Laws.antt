@@ -4,7 +4,6 @@ use Rattle.std.specs.Option.{option_map}
 use Rattle.isa.specs.declared.refusal.Refusal.{Refusal}
 use Rattle.isa.specs.declared.refusal.Refusal.TheVariants.{Range}
 use Rattle.isa.specs.declared.instruction.Instruction.{Instruction}
-use Rattle.isa.specs.declared.codec.Code.{Code}
 use Rattle.isa.specs.Shapes.{width_of}
 use Rattle.isa.specs.Instructions.{letter_of}
 use Rattle.isa.specs.Table.{shape_of}
@@ -16,7 +15,7 @@ pub record ReadsBack (i : Instruction ℕ) : Type 0 where
   pub back : (bs : List ℕ) → take (width i) bs ≡ encoded i → decoded bs ≡ Ok i
   pub length : option_map width_of (shape_of (letter_of i)) ≡ Some (width i)
 
-abbrev pub Encodes : Instruction ℕ → Result Code Refusal → Type 0
+abbrev pub Encodes : {C : Type 0} → Instruction ℕ → Result C Refusal → Type 0
 Encodes i (Ok c) = ReadsBack i
 Encodes i (Err e) = e ≡ Range
 

@@ -1,5 +1,5 @@
 -- The table of commands.
-use Rattle.std.specs.Prelude.{ℕ, Bool, true, cond, ◌&&◌, ℤ, pos, negsuc, Some, None, Option, ◌==◌, int_le}
+use Rattle.std.specs.Prelude.{ℕ, Bool, true, cond, ◌&&◌, ℤ, pos, negsuc, Some, None, Ok, Err, Option, Result, ◌==◌, int_le}
 use Rattle.isa.specs.Shapes.{operands}
 use Rattle.isa.specs.declared.shape.Operands.{Operands}
 use Rattle.isa.specs.declared.shape.Order.TheVariants.{First, Second}
@@ -10,7 +10,8 @@ use Rattle.isa.specs.declared.instruction.Action.TheVariants.{Outputs, Divisor, 
 use Rattle.isa.specs.declared.instruction.Instruction.{Instruction}
 use Rattle.isa.specs.declared.instruction.Instruction.TheVariants.{Go, Jump, JumpLow, Act}
 use Rattle.isa.specs.declared.table.Entry.{Entry}
-use Rattle.isa.specs.declared.table.Entry.TheVariants.{Unknown, OutOfRange, Fits}
+use Rattle.isa.specs.declared.table.Mismatch.{Mismatch}
+use Rattle.isa.specs.declared.table.Mismatch.TheVariants.{UnknownLetter, OutOfRange}
 
 abbrev pub within : ℤ → ℤ → ℤ → Bool
 within low z high = int_le low z && int_le z high
@@ -20,11 +21,14 @@ abbrev pub nat : ℤ → ℕ
 nat (pos n) = n
 nat (negsuc n) = 0
 
--- the row of one letter: whether it is this letter, its shape, whether each operand is in range, and its instruction
-abbrev pub row : Bool → Shape → Bool → Bool → Instruction ℕ → Entry → Entry
-row here s one two i others = cond here (cond one (cond two (Fits s i) (OutOfRange s Second)) (OutOfRange s First)) others
+abbrev pub fit : Shape → Instruction ℕ → Entry
+fit s i = record { shape = s; instruction = i }
 
-abbrev pub entry_at : ℕ → ℤ → ℤ → Entry
+-- the row of one letter: whether it is this letter, its shape, whether each operand is in range, and its instruction
+abbrev pub row : Bool → Shape → Bool → Bool → Instruction ℕ → Result Entry Mismatch → Result Entry Mismatch
+row here s one two i others = cond here (cond one (cond two (Ok (fit s i)) (Err (OutOfRange s Second))) (Err (OutOfRange s First))) others
+
+abbrev pub entry_at : ℕ → ℤ → ℤ → Result Entry Mismatch
 entry_at l x y =
     row (l == 65) Byte (within (pos 0) x (pos 63)) true (Act (Outputs (nat x)))  -- A
     (row (l == 68) Byte (within (pos 1) x (pos 255)) true (Act (Divisor (nat x)))  -- D
@@ -40,15 +44,15 @@ entry_at l x y =
     (row (l == 90) Plain true true (Act Report)  -- Z
     (row (l == 43) Long (within (pos 0) x (pos 16777215)) true (Act (Index Plus (nat x)))  -- +
     (row (l == 45) Long (within (pos 0) x (pos 16777215)) true (Act (Index Minus (nat x)))  -- -
-    Unknown)))))))))))))
+    (Err UnknownLetter))))))))))))))
 
-abbrev pub entry : ℕ → Operands → Entry
+abbrev pub entry : ℕ → Operands → Result Entry Mismatch
 entry l o = entry_at l o.first o.second
 
-abbrev pub shape_in : Entry → Option Shape
-shape_in Unknown = None
-shape_in (OutOfRange s k) = Some s
-shape_in (Fits s i) = Some s
+abbrev pub shape_in : Result Entry Mismatch → Option Shape
+shape_in (Ok e) = Some e.shape
+shape_in (Err (OutOfRange s k)) = Some s
+shape_in (Err UnknownLetter) = None
 
 abbrev pub shape_of : ℕ → Option Shape
 shape_of l = shape_in (entry l (operands (pos 0) (pos 0)))

@@ -1,29 +1,30 @@
 //! Instructions to bytes and back.
 
-ghost use Rattle.std.specs.Prelude.{◌≡◌, ◌/◌, ◌%◌, true, [], ◌∷◌, slice_index};
-ghost use Rattle.isa.specs.Codes.{code_of, in_range, encoding, decoded};
+ghost use Rattle.std.specs.Prelude.{◌≡◌, ◌/◌, ◌%◌, true, [], ◌∷◌, length, take, slice_index};
+ghost use Rattle.isa.specs.Codes.{code_in, operand_bytes, in_range, encoding, decoded};
 ghost use Rattle.isa.specs.Laws.{Encodes, Decodes};
 
 use crate::instruction::{Action, Instruction};
 use crate::refusal::Refusal;
-use crate::table::{Entry, look_up, shape_of};
+use crate::table::{Mismatch, look_up, shape_of};
+use arrayvec::ArrayVec;
 
-/// The bytes of an instruction: the first `len` of `bytes`, and 0 after them.
-#[derive(Clone, Copy)]
-pub struct Code {
-    pub bytes: [u8; 4],
-    pub len: usize,
-}
+/// The byte that ends a stretch, and that stands wherever no instruction does. No letter has this code.
+pub const MARK: u8 = 255;
 
 /// The bytes of an instruction; refused with `Range` if an operand is outside its range.
-pub fn encode(instruction: Instruction<u16>) -> Result<Code, Refusal>
-    ensures value { result ≡ encoding instruction }
+pub fn encode(instruction: Instruction<u16>) -> Result<ArrayVec<u8, 4>, Refusal>
+    ensures value { code_in result ≡ encoding instruction }
     ensures law { Encodes instruction result }
 {
-    match look_up(instruction.letter() as char, instruction.operands()) {
-        Entry::Fits(_, _) => Ok(lay(instruction)),
-        Entry::OutOfRange(_, _) | Entry::Unknown => Err(Refusal::Range),
-    }
+    let letter = instruction.letter();
+    let Ok(entry) = look_up(letter as char, instruction.operands()) else {
+        return Err(Refusal::Range);
+    };
+    let [first, second, third] = operand_bytes(instruction);
+    let mut code = ArrayVec::from([letter, first, second, third]);
+    code.truncate(entry.shape.width());
+    Ok(code)
 }
 
 /// The instruction in front of four bytes; refused with `Code` if the first is no letter, with `Range` if an operand
@@ -40,73 +41,47 @@ fn decode_parts(letter: u8, low: u8, middle: u8, high: u8) -> Result<Instruction
     ensures value { result ≡ decoded (letter ∷ low ∷ middle ∷ high ∷ []) }
     ensures law { Decodes (letter ∷ low ∷ middle ∷ high ∷ []) result }
 {
-    let Some(shape) = shape_of(letter as char) else {
-        return Err(Refusal::Code);
-    };
+    let shape = shape_of(letter as char).ok_or(Refusal::Code)?;
     match look_up(letter as char, shape.operands_in([low, middle, high])) {
-        Entry::Fits(_, instruction) => Ok(instruction),
-        Entry::OutOfRange(_, _) => Err(Refusal::Range),
-        Entry::Unknown => Err(Refusal::Code),
+        Ok(entry) => Ok(entry.instruction),
+        Err(Mismatch::OutOfRange(_, _)) => Err(Refusal::Range),
+        Err(Mismatch::UnknownLetter) => Err(Refusal::Code),
     }
 }
 
-/// The bytes of an instruction whose operands are in range.
-fn lay(instruction: Instruction<u16>) -> Code
+/// The bytes after the letter of an instruction whose operands are in range, and 0 after them.
+fn operand_bytes(instruction: Instruction<u16>) -> [u8; 3]
     requires { in_range instruction ≡ true }
-    ensures { result ≡ code_of instruction }
+    ensures { take (length (operand_bytes instruction)) result ≡ operand_bytes instruction }
 {
-    let letter = instruction.letter();
     match instruction {
-        Instruction::Go(target) => word(letter, target),
-        Instruction::Jump { target, times } => word_and_byte(letter, target, times),
-        Instruction::JumpLow { target, port } => word_and_byte(letter, target, port),
+        Instruction::Go(target) => word(target, 0),
+        Instruction::Jump { target, times } => word(target, times),
+        Instruction::JumpLow { target, port } => word(target, port),
         Instruction::Act(action) => match action {
-            Action::Outputs(n) | Action::Divisor(n) => Code {
-                bytes: [letter, n, 0, 0],
-                len: 2,
-            },
-            Action::InitialSpeed(n) | Action::SlewSpeed(n) | Action::Wait(n) => word(letter, n),
-            Action::Rates { gain, loss } => Code {
-                bytes: [letter, gain, loss, 0],
-                len: 3,
-            },
-            Action::Origin(n) => long(letter, n.to_le_bytes()),
-            Action::IndexTo(n) => long(letter, n.to_le_bytes()),
-            Action::Report => Code {
-                bytes: [letter, 0, 0, 0],
-                len: 1,
-            },
-            Action::Index { steps, .. } => long(letter, steps.to_le_bytes()),
+            Action::Outputs(n) | Action::Divisor(n) => [n, 0, 0],
+            Action::InitialSpeed(n) | Action::SlewSpeed(n) | Action::Wait(n) => word(n, 0),
+            Action::Rates { gain, loss } => [gain, loss, 0],
+            Action::Origin(n) => long(n.to_le_bytes()),
+            Action::IndexTo(n) => long(n.to_le_bytes()),
+            Action::Report => [0; 3],
+            Action::Index { steps, .. } => long(steps.to_le_bytes()),
         },
     }
 }
 
-fn word(letter: u8, n: u16) -> Code
-    ensures { result ≡ record { bytes = letter ∷ n % 256 ∷ n / 256 ∷ 0 ∷ []; len = 3 } }
+/// Two bytes, low byte first, and one more.
+fn word(n: u16, last: u8) -> [u8; 3]
+    ensures { result ≡ n % 256 ∷ n / 256 ∷ last ∷ [] }
 {
     let [low, high] = n.to_le_bytes();
-    Code {
-        bytes: [letter, low, high, 0],
-        len: 3,
-    }
+    [low, high, last]
 }
 
-fn word_and_byte(letter: u8, n: u16, last: u8) -> Code
-    ensures { result ≡ record { bytes = letter ∷ n % 256 ∷ n / 256 ∷ last ∷ []; len = 4 } }
-{
-    let [low, high] = n.to_le_bytes();
-    Code {
-        bytes: [letter, low, high, last],
-        len: 4,
-    }
-}
-
-fn long(letter: u8, bytes: [u8; 4]) -> Code
-    ensures { result ≡ record { bytes = letter ∷ slice_index bytes 0 ∷ slice_index bytes 1 ∷ slice_index bytes 2 ∷ []; len = 4 } }
+/// Four bytes without the highest.
+fn long(bytes: [u8; 4]) -> [u8; 3]
+    ensures { result ≡ slice_index bytes 0 ∷ slice_index bytes 1 ∷ slice_index bytes 2 ∷ [] }
 {
     let [low, middle, high, _] = bytes;
-    Code {
-        bytes: [letter, low, middle, high],
-        len: 4,
-    }
+    [low, middle, high]
 }

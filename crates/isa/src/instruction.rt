@@ -1,18 +1,18 @@
 //! Instructions.
 
 ghost use Rattle.std.specs.Prelude.{◌≡◌};
-ghost use Rattle.isa.specs.Instructions.{letter_of, operands_of, target_of};
+ghost use Rattle.isa.specs.Instructions.{letter_of, operands_of, target_of, Retargets, TriesTarget};
 
 use crate::shape::Operands;
 
-#[derive(Clone, Copy)]
+#[derive(Clone, Copy, Debug, PartialEq, Eq)]
 pub enum Direction {
     Plus,
     Minus,
 }
 
 /// What an instruction without a target does.
-#[derive(Clone, Copy)]
+#[derive(Clone, Copy, Debug, PartialEq, Eq)]
 pub enum Action {
     /// `A`: the outputs become these six bits.
     Outputs(u8),
@@ -37,7 +37,7 @@ pub enum Action {
 }
 
 /// An instruction over its kind of target: a place in an image, a place or a label in a text.
-#[derive(Clone, Copy)]
+#[derive(Clone, Copy, Debug, PartialEq, Eq)]
 pub enum Instruction<T> {
     /// `G`: go on at the target.
     Go(T),
@@ -48,7 +48,7 @@ pub enum Instruction<T> {
     Act(Action),
 }
 
-impl Instruction<u16> {
+impl<T: Copy> Instruction<T> {
     /// The ASCII code of the command letter, the first byte of the instruction.
     pub fn letter(self) -> u8
         ensures { result ≡ letter_of self }
@@ -79,6 +79,58 @@ impl Instruction<u16> {
         }
     }
 
+    /// Where the instruction may go on to, besides the one after it.
+    pub fn target(self) -> Option<T>
+        ensures { result ≡ target_of self }
+    {
+        match self {
+            Instruction::Go(target) => Some(target),
+            Instruction::Jump { target, .. } => Some(target),
+            Instruction::JumpLow { target, .. } => Some(target),
+            Instruction::Act(_) => None,
+        }
+    }
+
+    /// The same instruction with another target.
+    pub fn map<U, F: FnOnce(T) -> U>(self, f: F) -> Instruction<U>
+        requires { F.IsAlwaysCallable f }
+        ensures { Retargets (F.post f) self result }
+    {
+        match self {
+            Instruction::Go(target) => Instruction::Go(f(target)),
+            Instruction::Jump { target, times } => Instruction::Jump {
+                target: f(target),
+                times,
+            },
+            Instruction::JumpLow { target, port } => Instruction::JumpLow {
+                target: f(target),
+                port,
+            },
+            Instruction::Act(action) => Instruction::Act(action),
+        }
+    }
+
+    /// The same instruction with another target, where there is one to be had.
+    pub fn try_map<U, E, F: FnOnce(T) -> Result<U, E>>(self, f: F) -> Result<Instruction<U>, E>
+        requires { F.IsAlwaysCallable f }
+        ensures { TriesTarget (F.post f) self result }
+    {
+        Ok(match self {
+            Instruction::Go(target) => Instruction::Go(f(target)?),
+            Instruction::Jump { target, times } => Instruction::Jump {
+                target: f(target)?,
+                times,
+            },
+            Instruction::JumpLow { target, port } => Instruction::JumpLow {
+                target: f(target)?,
+                port,
+            },
+            Instruction::Act(action) => Instruction::Act(action),
+        })
+    }
+}
+
+impl Instruction<u16> {
     /// The operands as numbers; 0 stands for one that the letter does not have.
     pub fn operands(self) -> Operands
         ensures { result ≡ operands_of self }
@@ -101,17 +153,5 @@ impl Instruction<u16> {
             },
         };
         Operands { first, second }
-    }
-
-    /// Where the instruction may go on to, besides the one after it.
-    pub fn target(self) -> Option<u16>
-        ensures { result ≡ target_of self }
-    {
-        match self {
-            Instruction::Go(target) => Some(target),
-            Instruction::Jump { target, .. } => Some(target),
-            Instruction::JumpLow { target, .. } => Some(target),
-            Instruction::Act(_) => None,
-        }
     }
 }

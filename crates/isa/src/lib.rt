@@ -12,9 +12,9 @@ mod refusal;
 mod shape;
 mod table;
 
-pub use codec::{Code, decode, encode};
+pub use codec::{MARK, decode, encode};
 pub use instruction::{Action, Direction, Instruction};
-pub use place::{is_user_place, page_of};
+pub use place::{IMAGE_SIZE, PAGE_SIZE, is_user_place, page_of};
 pub use refusal::Refusal;
 pub use shape::{Operands, Order, Shape};
-pub use table::{Entry, look_up, shape_of};
+pub use table::{Entry, Mismatch, look_up, shape_of};

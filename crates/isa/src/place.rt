@@ -3,11 +3,17 @@
 ghost use Rattle.std.specs.Prelude.{◌≡◌};
 ghost use Rattle.isa.specs.Places.{user, page};
 
+/// How many places there are.
+pub const IMAGE_SIZE: usize = 2_048;
+
+/// How many places a page has.
+pub const PAGE_SIZE: usize = 256;
+
 /// Whether a sequence may use this place.
 pub fn is_user_place(place: u16) -> bool
     ensures { result ≡ user place }
 {
-    place <= 192 || (place >= 256 && place <= 2047)
+    matches!(place, 0..=192 | 256..=2_047)
 }
 
 /// The page that holds a place.

@@ -4,22 +4,24 @@ ghost use Rattle.std.specs.Prelude.{◌≡◌};
 ghost use Rattle.isa.specs.Shapes.{width_of, count_of, aims, three, operands_in};
 ghost use Rattle.isa.specs.TwosComplement.{half24, value_of};
 
+// Stays: 0 and no Option for an operand that a letter does not have; no row of the table reads it, and each row that reads
+// one would have to unwrap it.
 /// The operands of an instruction as numbers; 0 stands for one that its letter does not have.
-#[derive(Clone, Copy)]
+#[derive(Clone, Copy, Debug, PartialEq, Eq)]
 pub struct Operands {
     pub first: i64,
     pub second: i64,
 }
 
 /// The first or the second of two operands.
-#[derive(Clone, Copy)]
+#[derive(Clone, Copy, Debug, PartialEq, Eq)]
 pub enum Order {
     First,
     Second,
 }
 
 /// The operands that a letter takes and the bytes that they take, low byte first.
-#[derive(Clone, Copy)]
+#[derive(Clone, Copy, Debug, PartialEq, Eq)]
 pub enum Shape {
     /// No operand.
     Plain,

@@ -1,10 +1,11 @@
 -- A line defines at most one label, and none without a label-shaped token.
-use Rattle.std.proofs.Common.{◌≡◌, ℕ, ◌+◌, ◌≤◌, Bool, true, false, cond, eqb, leb, List, [], ◌∷◌, length, Some, None, Ok, Err, codes, Option, Result, subst, arith}
+use Rattle.std.proofs.Common.{◌≡◌, ℕ, ◌+◌, ◌≤◌, Bool, true, false, cond, leb, List, [], ◌∷◌, length, Some, None, Ok, Err, codes, Option, Result, subst, arith}
 use Rattle.std.specs.Str.{bytes_eq}
-use Rattle.isa.specs.declared.refusal.Refusal.TheVariants.{Character, Long}
+use Rattle.isa.specs.declared.refusal.Refusal.TheVariants.{Long}
 use Rattle.isa.specs.declared.shape.Shape.{Shape}
 use Rattle.isa.specs.declared.table.Entry.{Entry}
-use Rattle.isa.specs.declared.table.Entry.TheVariants.{Unknown, OutOfRange, Fits}
+use Rattle.isa.specs.declared.table.Mismatch.{Mismatch}
+use Rattle.isa.specs.declared.table.Mismatch.TheVariants.{UnknownLetter, OutOfRange}
 use Rattle.isa.specs.Checks.{require}
 use Rattle.isa.specs.Shapes.{operands}
 use Rattle.isa.specs.Table.{entry, shape_of}
@@ -14,7 +15,7 @@ use Rattle.sequence.specs.declared.text.Definition.{Definition}
 use Rattle.sequence.specs.declared.text.Line.{Line}
 use Rattle.sequence.specs.declared.text.Line.TheVariants.{Blank, Opens, Holds}
 use Rattle.sequence.specs.Texts.{Token, tokens, is_label, label_name, place_of}
-use Rattle.sequence.specs.Lines.{text_fault, Pair, pair_of, value_of, Head, source_of, ranged, formed, lettered, touching, coded, instructed, head, labelled, placed, opened_at, opened, taken, longest, first_bad, parsed}
+use Rattle.sequence.specs.Lines.{text_fault, Pair, pair_of, value_of, Head, source_of, ranged, formed, lettered, touching, coded, instructed, head, labelled, placed, opened_at, opened, taken, longest, first_bad, clean, parsed}
 use Rattle.sequence.specs.Translations.{label_tokens}
 use Rattle.layout.proofs.Basics.{ok_then, ok_ok}
 
@@ -38,10 +39,10 @@ no n f x e = let z : ◌≡◌ {A = ℕ} 0 1 = cc in absurd (omega arith)
 plain : (n : ℕ) (y : Line) → defined_by y ≤ n → Yields n (Ok y)
 plain n y h x e = subst (λ (l : Line). defined_by l ≤ n) (ok_ok _ _ e) h
 
-ranged_counted : (h : Head) (p : Pair) (c : ℕ) (k : Entry) → Yields (defined_in h.label) (ranged h p c k)
-ranged_counted h p c Unknown = no _ _
-ranged_counted h p c (OutOfRange s o) = no _ _
-ranged_counted h p c (Fits s i) = plain _ (Holds (source_of h p i)) (omega arith)
+ranged_counted : (h : Head) (p : Pair) (c : ℕ) (k : Result Entry Mismatch) → Yields (defined_in h.label) (ranged h p c k)
+ranged_counted h p c (Ok e) = plain _ (Holds (source_of h p e.instruction)) (omega arith)
+ranged_counted h p c (Err (OutOfRange s o)) = no _ _
+ranged_counted h p c (Err UnknownLetter) = no _ _
 
 formed_counted : (h : Head) (b c : ℕ) (o : Option Pair) → Yields (defined_in h.label) (formed h b c o)
 formed_counted h b c None = no _ _
@@ -93,5 +94,5 @@ taken_counted l (t ∷ ts) = either (bytes_eq t.bytes (codes "at")) _ _ _ (opene
 pub label_counted : (l : ℕ) (b : List ℕ) (x : Line) → parsed l b ≡ Ok x → defined_by x ≤ label_tokens (tokens 1 true b)
 label_counted l b x e =
     let u = ok_then (require (leb (length b) longest) (text_fault Long l 0)) _ x e in
-    let v = ok_then (require (eqb (first_bad 1 b) 0) (text_fault Character l (first_bad 1 b))) _ x u.2 in
+    let v = ok_then (clean l (first_bad b)) _ x u.2 in
     taken_counted l (tokens 1 true b) x v.2

@@ -1,15 +1,16 @@
 -- The operands of a line that is taken apart are in range, its target aside; and so are those of the instruction that the
 -- line becomes.
-use Rattle.std.proofs.Common.{◌≡◌, ℕ, ◌+◌, ◌≤◌, Bool, true, false, cond, eqb, leb, List, [], ◌∷◌, length, ℤ, Some, None, Ok, Err, codes, Option, Result, refl, ap, subst, arith}
+use Rattle.std.proofs.Common.{◌≡◌, ℕ, ◌+◌, ◌≤◌, Bool, true, false, cond, leb, List, [], ◌∷◌, length, ℤ, Some, None, Ok, Err, codes, Option, Result, refl, ap, subst, arith}
 use Rattle.std.proofs.lemmas.Bool.Decides.{nat_tests}
 use Rattle.std.specs.List.{AllByRecursion}
 use Rattle.std.specs.Str.{bytes_eq}
-use Rattle.isa.specs.declared.refusal.Refusal.TheVariants.{Character, Long}
+use Rattle.isa.specs.declared.refusal.Refusal.TheVariants.{Long}
 use Rattle.isa.specs.declared.shape.Shape.{Shape}
 use Rattle.isa.specs.declared.instruction.Instruction.{Instruction}
 use Rattle.isa.specs.declared.instruction.Instruction.TheVariants.{Go, Jump, JumpLow, Act}
 use Rattle.isa.specs.declared.table.Entry.{Entry}
-use Rattle.isa.specs.declared.table.Entry.TheVariants.{Unknown, OutOfRange, Fits}
+use Rattle.isa.specs.declared.table.Mismatch.{Mismatch}
+use Rattle.isa.specs.declared.table.Mismatch.TheVariants.{UnknownLetter, OutOfRange}
 use Rattle.isa.specs.Checks.{require}
 use Rattle.isa.specs.Shapes.{operands}
 use Rattle.isa.specs.Table.{entry, shape_of}
@@ -20,7 +21,7 @@ use Rattle.sequence.specs.declared.text.WrittenPlace.{WrittenPlace}
 use Rattle.sequence.specs.declared.text.Line.{Line}
 use Rattle.sequence.specs.declared.text.Line.TheVariants.{Blank, Opens, Holds}
 use Rattle.sequence.specs.Texts.{Token, tokens, is_label, label_name, place_of}
-use Rattle.sequence.specs.Lines.{text_fault, Operand, Pair, pair_of, value_of, aimed_at, Head, source_of, ranged, formed, lettered, touching, coded, instructed, head, labelled, placed, opened_at, opened, taken, longest, first_bad, parsed}
+use Rattle.sequence.specs.Lines.{text_fault, Operand, Pair, pair_of, value_of, aimed_at, Head, source_of, ranged, formed, lettered, touching, coded, instructed, head, labelled, placed, opened_at, opened, taken, longest, first_bad, clean, parsed}
 use Rattle.sequence.specs.Placings.{unaimed}
 use Rattle.sequence.specs.Layouts.{parsed_all}
 use Rattle.layout.proofs.Basics.{ok_then, ok_ok}
@@ -57,10 +58,10 @@ no f x e = let z : ◌≡◌ {A = ℕ} 0 1 = cc in absurd (omega arith)
 plain : (y : Line) → Sound y → Yields (Ok y)
 plain y h x e = subst Sound (ok_ok _ _ e) h
 
-ranged_sound : (h : Head) (p : Pair) (c b : ℕ) (y z : ℤ) (k : Entry) → entry b (operands y z) ≡ k → Yields (ranged h p c k)
-ranged_sound h p c b y z Unknown q = no _
-ranged_sound h p c b y z (OutOfRange s o) q = no _
-ranged_sound h p c b y z (Fits s i) q = plain (Holds (source_of h p i)) (unaimed_range p.first i (entry_in_range y z b i (ap instruction_in q)))
+ranged_sound : (h : Head) (p : Pair) (c b : ℕ) (y z : ℤ) (k : Result Entry Mismatch) → entry b (operands y z) ≡ k → Yields (ranged h p c k)
+ranged_sound h p c b y z (Ok e) q = plain (Holds (source_of h p e.instruction)) (unaimed_range p.first e.instruction (entry_in_range y z b e.instruction (ap instruction_in q)))
+ranged_sound h p c b y z (Err (OutOfRange s o)) q = no _
+ranged_sound h p c b y z (Err UnknownLetter) q = no _
 
 formed_sound : (h : Head) (b c : ℕ) (o : Option Pair) → Yields (formed h b c o)
 formed_sound h b c None = no _
@@ -106,7 +107,7 @@ taken_sound l (t ∷ ts) = either (bytes_eq t.bytes (codes "at")) _ _ (opened_so
 pub line_sound : (l : ℕ) (bs : List ℕ) (x : Line) → parsed l bs ≡ Ok x → Sound x
 line_sound l bs x e =
     let a = ok_then (require (leb (length bs) longest) (text_fault Long l 0)) _ x e in
-    let b = ok_then (require (eqb (first_bad 1 bs) 0) (text_fault Character l (first_bad 1 bs))) _ x a.2 in
+    let b = ok_then (clean l (first_bad bs)) _ x a.2 in
     taken_sound l (tokens 1 true bs) x b.2
 
 pub parsed_sound : (l : ℕ) (bs : List (List ℕ)) (ls : List Line) → parsed_all l bs ≡ Ok ls → AllByRecursion Sound ls

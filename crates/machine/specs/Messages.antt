@@ -1,6 +1,6 @@
 -- What a message asks: it is read as the instruction of a line of a text is. No message is a J, L or W, and its targets are
 -- numbers; @ is one.
-use Rattle.std.specs.Prelude.{ℕ, Bool, true, cond, ◌||◌, List, [], ◌∷◌, Some, None, Ok, Err, Option, Result, ◌==◌}
+use Rattle.std.specs.Prelude.{ℕ, Bool, true, cond, ◌||◌, List, [], ◌∷◌, Some, None, Ok, Err, is_none, Option, Result, ◌==◌}
 use Rattle.isa.specs.declared.refusal.Refusal.{Refusal}
 use Rattle.isa.specs.declared.refusal.Refusal.TheVariants.{Character, Letter, Long, Operands}
 use Rattle.isa.specs.declared.instruction.Instruction.{Instruction}
@@ -60,7 +60,7 @@ worded (t ∷ ts) = lettered t.column t.bytes ts
 
 -- 2, 3, 5 (blank too), 6
 unfoldable pub message_of : List ℕ → Result Message Refusal
-message_of bs = and_then (require (first_bad 1 bs == 0) Character) (λ _. worded (tokens 1 true bs))
+message_of bs = and_then (require (is_none (first_bad bs)) Character) (λ _. worded (tokens 1 true bs))
 
 -- the message that a line feed ends, if there is one: 4 first
 abbrev pub message_in : Receiver → Option (Result Message Refusal)

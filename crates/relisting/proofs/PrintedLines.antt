@@ -1,28 +1,27 @@
 -- A line of a listing is taken apart as it was written.
-use Rattle.std.proofs.Common.{◌≡◌, ℕ, suc, ◌+◌, ◌*◌, ◌<◌, ◌≤◌, Bool, true, false, cond, eqb, List, [], ◌∷◌, ◌++◌, length, ℤ, pos, negsuc, Some, None, Ok, codes, sym, refl, ap, ◌∙◌, arith}
-use Rattle.std.proofs.lemmas.Bool.{and_parts, and_from, eq-eqb, le-leb, cond-true, cond-false}
+use Rattle.std.proofs.Common.{◌≡◌, ℕ, ◌+◌, ◌*◌, ◌<◌, ◌≤◌, Bool, true, false, cond, not, List, [], ◌∷◌, ◌++◌, length, ℤ, pos, negsuc, Some, None, Ok, codes, sym, refl, ap, ◌∙◌, arith}
+use Rattle.std.proofs.lemmas.Bool.{and_parts, and_from, le-leb, cond-false}
 use Rattle.std.proofs.lemmas.List.{append-nil, append_assoc, length-append}
 use Rattle.std.proofs.lemmas.Bool.Decides.{nat_tests}
-use Rattle.std.specs.List.{AllByRecursion}
-use Rattle.isa.specs.declared.refusal.Refusal.TheVariants.{Character, Long as TooLong}
+use Rattle.std.specs.List.{AllByRecursion, prefix_len}
+use Rattle.isa.specs.declared.refusal.Refusal.TheVariants.{Long as TooLong}
 use Rattle.isa.specs.declared.shape.Shape.{Shape}
 use Rattle.isa.specs.declared.shape.Shape.TheVariants.{Byte, Pair as Both, Word as Double, Target, TargetByte, Signed, Long}
 use Rattle.isa.specs.declared.instruction.Direction.TheVariants.{Plus, Minus}
 use Rattle.isa.specs.declared.instruction.Action.TheVariants.{Outputs, Divisor, InitialSpeed, SlewSpeed, Rates, Origin, IndexTo, Wait, Report, Index}
 use Rattle.isa.specs.declared.instruction.Instruction.{Instruction}
 use Rattle.isa.specs.declared.instruction.Instruction.TheVariants.{Go, Jump, JumpLow, Act}
-use Rattle.isa.specs.declared.table.Entry.TheVariants.{Fits}
 use Rattle.isa.specs.Checks.{and_then, require}
 use Rattle.isa.specs.Shapes.{operands}
 use Rattle.isa.specs.Instructions.{letter_of, retarget}
-use Rattle.isa.specs.Table.{entry, shape_of}
+use Rattle.isa.specs.Table.{fit, entry, shape_of}
 use Rattle.isa.specs.Codes.{in_range}
 use Rattle.sequence.specs.declared.text.Target.TheVariants.{Place}
 use Rattle.sequence.specs.declared.text.Source.{Source}
 use Rattle.sequence.specs.declared.text.Line.TheVariants.{Opens, Holds}
 use Rattle.sequence.specs.Numbers.{decimal, signed}
 use Rattle.sequence.specs.Texts.{Token, tokens, every, is_label, place_of}
-use Rattle.sequence.specs.Lines.{text_fault, number, operand_of, absent, one_of, two_of, Head, head, source_of, ranged, formed, lettered, placed, opened_at, opened, taken, allowed, first_bad, parsed}
+use Rattle.sequence.specs.Lines.{text_fault, number, operand_of, absent, one_of, two_of, Head, head, source_of, ranged, formed, lettered, placed, opened_at, opened, taken, allowed, first_bad, clean, parsed}
 use Rattle.sequence.specs.Listings.{space, instruction_text, at_line, instruction_line}
 use Rattle.relisting.proofs.Digits.{plain, Short, decimal_word, signed_word, place_decimal, decimal_not_at, operand_signed, operand_target}
 use Rattle.relisting.proofs.Tokens.{token, last}
@@ -71,11 +70,11 @@ pub record Spelt (i : Instruction ℕ) : Type 0 where
 
 -- one operand, and two
 module _ (h : Head) (c k : ℕ) (b : ℕ) (i : Instruction ℕ) (s : Shape) where
-  one_read : (t : Bool) (z : ℤ) → operand_of t (signed z) ≡ Some (number z) → entry b (operands z (pos 0)) ≡ Fits s i
+  one_read : (t : Bool) (z : ℤ) → operand_of t (signed z) ≡ Some (number z) → entry b (operands z (pos 0)) ≡ Ok (fit s i)
       → formed h b c (one_of k (operand_of t (signed z))) ≡ Ok (Holds (source_of h (record { first = number z; second = absent; first_column = k; second_column = 0 }) i))
   one_read t z o e = ap (λ o. formed h b c (one_of k o)) o ∙ ap (ranged h (record { first = number z; second = absent; first_column = k; second_column = 0 }) c) e
 
-  two_read : (t : Bool) (y z : ℤ) (j : ℕ) → operand_of t (signed y) ≡ Some (number y) → operand_of false (signed z) ≡ Some (number z) → entry b (operands y z) ≡ Fits s i
+  two_read : (t : Bool) (y z : ℤ) (j : ℕ) → operand_of t (signed y) ≡ Some (number y) → operand_of false (signed z) ≡ Some (number z) → entry b (operands y z) ≡ Ok (fit s i)
       → formed h b c (two_of k j (operand_of t (signed y)) (operand_of false (signed z))) ≡ Ok (Holds (source_of h (record { first = number y; second = number z; first_column = k; second_column = j }) i))
   two_read t y z j o q e =
       ap (λ o. formed h b c (two_of k j o (operand_of false (signed z)))) o ∙ ap (λ o. formed h b c (two_of k j (Some (number y)) o)) q
@@ -87,64 +86,64 @@ two_text l y z = ap (λ t. l ∷ ((32 ∷ signed y) ++ (32 ∷ t))) (sym (append
 pub spelt : (i : Instruction ℕ) → in_range i ≡ true → Spelt i
 spelt (Go p) r =
     let h : p < 99999999 = grind (arith, nat_tests) in
-    let e : entry 71 (operands (pos p) (pos 0)) ≡ Fits Target (Go p) = grind (arith, nat_tests) in
+    let e : entry 71 (operands (pos p) (pos 0)) ≡ Ok (fit Target (Go p)) = grind (arith, nat_tests) in
     record { text = refl; short = (h, tt); few = omega arith; letter = (refl, refl, refl); reads = λ k f c. one_read f c k 71 (Go p) Target true (pos p) (operand_target p (omega arith)) e }
 spelt (Jump p n) r =
     let h : (p < 99999999) × (n < 99999999) = grind (arith, nat_tests) in
-    let e : entry 74 (operands (pos p) (pos n)) ≡ Fits TargetByte (Jump p n) = grind (arith, nat_tests) in
+    let e : entry 74 (operands (pos p) (pos n)) ≡ Ok (fit TargetByte (Jump p n)) = grind (arith, nat_tests) in
     record { text = two_text 74 (pos p) (pos n); short = (h.0, (h.1, tt)); few = omega arith; letter = (refl, refl, refl); reads = λ k f c. two_read f c k 74 (Jump p n) TargetByte true (pos p) (pos n) _ (operand_target p (omega arith)) (operand_signed (pos n) h.1) e }
 spelt (JumpLow p n) r =
     let h : (p < 99999999) × (n < 99999999) = grind (arith, nat_tests) in
-    let e : entry 76 (operands (pos p) (pos n)) ≡ Fits TargetByte (JumpLow p n) = grind (arith, nat_tests) in
+    let e : entry 76 (operands (pos p) (pos n)) ≡ Ok (fit TargetByte (JumpLow p n)) = grind (arith, nat_tests) in
     record { text = two_text 76 (pos p) (pos n); short = (h.0, (h.1, tt)); few = omega arith; letter = (refl, refl, refl); reads = λ k f c. two_read f c k 76 (JumpLow p n) TargetByte true (pos p) (pos n) _ (operand_target p (omega arith)) (operand_signed (pos n) h.1) e }
 spelt (Act (Outputs n)) r =
     let h : n < 99999999 = grind (arith, nat_tests) in
-    let e : entry 65 (operands (pos n) (pos 0)) ≡ Fits Byte (Act (Outputs n)) = grind (arith, nat_tests) in
+    let e : entry 65 (operands (pos n) (pos 0)) ≡ Ok (fit Byte (Act (Outputs n))) = grind (arith, nat_tests) in
     record { text = refl; short = (h, tt); few = omega arith; letter = (refl, refl, refl); reads = λ k f c. one_read f c k 65 (Act (Outputs n)) Byte false (pos n) (operand_signed (pos n) h) e }
 spelt (Act (Divisor n)) r =
     let h : n < 99999999 = grind (arith, nat_tests) in
-    let e : entry 68 (operands (pos n) (pos 0)) ≡ Fits Byte (Act (Divisor n)) = grind (arith, nat_tests) in
+    let e : entry 68 (operands (pos n) (pos 0)) ≡ Ok (fit Byte (Act (Divisor n))) = grind (arith, nat_tests) in
     record { text = refl; short = (h, tt); few = omega arith; letter = (refl, refl, refl); reads = λ k f c. one_read f c k 68 (Act (Divisor n)) Byte false (pos n) (operand_signed (pos n) h) e }
 spelt (Act (InitialSpeed n)) r =
     let h : n < 99999999 = grind (arith, nat_tests) in
-    let e : entry 73 (operands (pos n) (pos 0)) ≡ Fits Double (Act (InitialSpeed n)) = grind (arith, nat_tests) in
+    let e : entry 73 (operands (pos n) (pos 0)) ≡ Ok (fit Double (Act (InitialSpeed n))) = grind (arith, nat_tests) in
     record { text = refl; short = (h, tt); few = omega arith; letter = (refl, refl, refl); reads = λ k f c. one_read f c k 73 (Act (InitialSpeed n)) Double false (pos n) (operand_signed (pos n) h) e }
 spelt (Act (SlewSpeed n)) r =
     let h : n < 99999999 = grind (arith, nat_tests) in
-    let e : entry 86 (operands (pos n) (pos 0)) ≡ Fits Double (Act (SlewSpeed n)) = grind (arith, nat_tests) in
+    let e : entry 86 (operands (pos n) (pos 0)) ≡ Ok (fit Double (Act (SlewSpeed n))) = grind (arith, nat_tests) in
     record { text = refl; short = (h, tt); few = omega arith; letter = (refl, refl, refl); reads = λ k f c. one_read f c k 86 (Act (SlewSpeed n)) Double false (pos n) (operand_signed (pos n) h) e }
 spelt (Act (Rates a d)) r =
     let h : (a < 99999999) × (d < 99999999) = grind (arith, nat_tests) in
-    let e : entry 75 (operands (pos a) (pos d)) ≡ Fits Both (Act (Rates a d)) = grind (arith, nat_tests) in
+    let e : entry 75 (operands (pos a) (pos d)) ≡ Ok (fit Both (Act (Rates a d))) = grind (arith, nat_tests) in
     record { text = two_text 75 (pos a) (pos d); short = (h.0, (h.1, tt)); few = omega arith; letter = (refl, refl, refl); reads = λ k f c. two_read f c k 75 (Act (Rates a d)) Both false (pos a) (pos d) _ (operand_signed (pos a) h.0) (operand_signed (pos d) h.1) e }
 spelt (Act (Origin (pos n))) r =
     let h : n < 99999999 = grind (arith, nat_tests) in
-    let e : entry 79 (operands (pos n) (pos 0)) ≡ Fits Signed (Act (Origin (pos n))) = grind (arith, nat_tests) in
+    let e : entry 79 (operands (pos n) (pos 0)) ≡ Ok (fit Signed (Act (Origin (pos n)))) = grind (arith, nat_tests) in
     record { text = refl; short = (h, tt); few = omega arith; letter = (refl, refl, refl); reads = λ k f c. one_read f c k 79 (Act (Origin (pos n))) Signed false (pos n) (operand_signed (pos n) h) e }
 spelt (Act (Origin (negsuc n))) r =
     let h : n < 99999999 = grind (arith, nat_tests) in
-    let e : entry 79 (operands (negsuc n) (pos 0)) ≡ Fits Signed (Act (Origin (negsuc n))) = grind (arith, nat_tests) in
+    let e : entry 79 (operands (negsuc n) (pos 0)) ≡ Ok (fit Signed (Act (Origin (negsuc n)))) = grind (arith, nat_tests) in
     record { text = refl; short = (h, tt); few = omega arith; letter = (refl, refl, refl); reads = λ k f c. one_read f c k 79 (Act (Origin (negsuc n))) Signed false (negsuc n) (operand_signed (negsuc n) h) e }
 spelt (Act (IndexTo (pos n))) r =
     let h : n < 99999999 = grind (arith, nat_tests) in
-    let e : entry 82 (operands (pos n) (pos 0)) ≡ Fits Signed (Act (IndexTo (pos n))) = grind (arith, nat_tests) in
+    let e : entry 82 (operands (pos n) (pos 0)) ≡ Ok (fit Signed (Act (IndexTo (pos n)))) = grind (arith, nat_tests) in
     record { text = refl; short = (h, tt); few = omega arith; letter = (refl, refl, refl); reads = λ k f c. one_read f c k 82 (Act (IndexTo (pos n))) Signed false (pos n) (operand_signed (pos n) h) e }
 spelt (Act (IndexTo (negsuc n))) r =
     let h : n < 99999999 = grind (arith, nat_tests) in
-    let e : entry 82 (operands (negsuc n) (pos 0)) ≡ Fits Signed (Act (IndexTo (negsuc n))) = grind (arith, nat_tests) in
+    let e : entry 82 (operands (negsuc n) (pos 0)) ≡ Ok (fit Signed (Act (IndexTo (negsuc n)))) = grind (arith, nat_tests) in
     record { text = refl; short = (h, tt); few = omega arith; letter = (refl, refl, refl); reads = λ k f c. one_read f c k 82 (Act (IndexTo (negsuc n))) Signed false (negsuc n) (operand_signed (negsuc n) h) e }
 spelt (Act (Wait n)) r =
     let h : n < 99999999 = grind (arith, nat_tests) in
-    let e : entry 87 (operands (pos n) (pos 0)) ≡ Fits Double (Act (Wait n)) = grind (arith, nat_tests) in
+    let e : entry 87 (operands (pos n) (pos 0)) ≡ Ok (fit Double (Act (Wait n))) = grind (arith, nat_tests) in
     record { text = refl; short = (h, tt); few = omega arith; letter = (refl, refl, refl); reads = λ k f c. one_read f c k 87 (Act (Wait n)) Double false (pos n) (operand_signed (pos n) h) e }
 spelt (Act Report) r = record { text = refl; short = tt; few = omega arith; letter = (refl, refl, refl); reads = λ k h c. refl }
 spelt (Act (Index Plus n)) r =
     let h : n < 99999999 = grind (arith, nat_tests) in
-    let e : entry 43 (operands (pos n) (pos 0)) ≡ Fits Long (Act (Index Plus n)) = grind (arith, nat_tests) in
+    let e : entry 43 (operands (pos n) (pos 0)) ≡ Ok (fit Long (Act (Index Plus n))) = grind (arith, nat_tests) in
     record { text = refl; short = (h, tt); few = omega arith; letter = (refl, refl, refl); reads = λ k f c. one_read f c k 43 (Act (Index Plus n)) Long false (pos n) (operand_signed (pos n) h) e }
 spelt (Act (Index Minus n)) r =
     let h : n < 99999999 = grind (arith, nat_tests) in
-    let e : entry 45 (operands (pos n) (pos 0)) ≡ Fits Long (Act (Index Minus n)) = grind (arith, nat_tests) in
+    let e : entry 45 (operands (pos n) (pos 0)) ≡ Ok (fit Long (Act (Index Minus n))) = grind (arith, nat_tests) in
     record { text = refl; short = (h, tt); few = omega arith; letter = (refl, refl, refl); reads = λ k f c. one_read f c k 45 (Act (Index Minus n)) Long false (pos n) (operand_signed (pos n) h) e }
 
 -- the tokens of a word and the numbers after it
@@ -154,9 +153,14 @@ tokens_of k w (z ∷ zs) s p a =
     let sw = signed_word z a.0 in
     token k w (signed z ++ spaced zs) s p ∙ ap (λ ts. record { column = k; bytes = w } ∷ ts) (tokens_of (k + length w + 1) (signed z) zs sw.some sw.plains a.1)
 
-bad_none : (k : ℕ) (bs : List ℕ) → every allowed bs ≡ true → first_bad k bs ≡ 0
-bad_none k [] h = refl
-bad_none k (b ∷ bs) h = let p = and_parts (allowed b) (every allowed bs) h in cond-true (allowed b) _ _ p.0 ∙ bad_none (suc k) bs p.1
+allowed_prefix : (bs : List ℕ) → every allowed bs ≡ true → prefix_len (λ b. not (not (allowed b))) bs ≡ length bs
+allowed_prefix [] h = refl
+allowed_prefix (b ∷ bs) h =
+    let p = and_parts (allowed b) (every allowed bs) h in
+    ap (λ t. cond (not (not t)) (1 + prefix_len (λ b. not (not (allowed b))) bs) 0) p.0 ∙ omega (arith, allowed_prefix bs p.1)
+
+bad_none : (bs : List ℕ) → every allowed bs ≡ true → first_bad bs ≡ None
+bad_none bs h = let e = allowed_prefix bs h in grind (arith, nat_tests)
 
 every-++ : (t : ℕ → Bool) (xs ys : List ℕ) → every t xs ≡ true → every t ys ≡ true → every t (xs ++ ys) ≡ true
 every-++ t [] ys a b = b
@@ -173,8 +177,8 @@ spaced_length (z ∷ zs) a = let w = (signed_word z a.0).nine in omega (arith, s
 -- a line passes the tests on bytes and is read by its tokens
 pass : (l : ℕ) (bs : List ℕ) → length bs ≤ 80 → every allowed bs ≡ true → parsed l bs ≡ taken l (tokens 1 true bs)
 pass l bs h a =
-    ap (λ t. and_then (require t (text_fault TooLong l 0)) (λ _. and_then (require (eqb (first_bad 1 bs) 0) (text_fault Character l (first_bad 1 bs))) (λ _. taken l (tokens 1 true bs)))) (le-leb (length bs) 80 h)
-    ∙ ap (λ t. and_then (require t (text_fault Character l (first_bad 1 bs))) (λ _. taken l (tokens 1 true bs))) (eq-eqb _ _ (bad_none 1 bs a))
+    ap (λ t. and_then (require t (text_fault TooLong l 0)) (λ _. and_then (clean l (first_bad bs)) (λ _. taken l (tokens 1 true bs)))) (le-leb (length bs) 80 h)
+    ∙ ap (λ o. and_then (clean l o) (λ _. taken l (tokens 1 true bs))) (bad_none bs a)
 
 -- the lines without their line feeds
 abbrev pub line_bytes : ℕ → Instruction ℕ → List ℕ

@@ -1,5 +1,5 @@
 -- A line of a text, taken apart.
-use Rattle.std.specs.Prelude.{ℕ, suc, Bool, true, false, cond, ◌&&◌, List, [], ◌∷◌, length, ℤ, pos, Some, None, Ok, Err, codes, Option, Result, ◌==◌, nat_le}
+use Rattle.std.specs.Prelude.{ℕ, suc, Bool, true, false, cond, not, ◌&&◌, List, [], ◌∷◌, length, ℤ, pos, Some, None, Ok, Err, codes, Option, Result, ◌==◌, nat_le, position}
 use Rattle.std.specs.Option.{option_map}
 use Rattle.std.specs.Str.{bytes_eq}
 use Rattle.isa.specs.declared.refusal.Refusal.{Refusal}
@@ -10,7 +10,8 @@ use Rattle.isa.specs.declared.shape.Shape.{Shape}
 use Rattle.isa.specs.declared.instruction.Instruction.{Instruction}
 use Rattle.isa.specs.declared.instruction.Instruction.TheVariants.{Go, Jump, JumpLow, Act}
 use Rattle.isa.specs.declared.table.Entry.{Entry}
-use Rattle.isa.specs.declared.table.Entry.TheVariants.{Unknown, OutOfRange, Fits}
+use Rattle.isa.specs.declared.table.Mismatch.{Mismatch}
+use Rattle.isa.specs.declared.table.Mismatch.TheVariants.{UnknownLetter, OutOfRange}
 use Rattle.isa.specs.Checks.{and_then, require}
 use Rattle.isa.specs.Shapes.{count_of, aims, operands}
 use Rattle.isa.specs.Table.{entry, shape_of}
@@ -96,10 +97,10 @@ abbrev pub source_of : Head → Pair → Instruction ℕ → Source
 source_of h p i = record { line = h.line; written = h.written; label = h.label; instruction = aimed_at p.first i; column = p.first_column }
 
 -- 6: an operand outside its range
-abbrev pub ranged : Head → Pair → ℕ → Entry → Result Line TextFault
-ranged h p c Unknown = refused Letter h.line c
-ranged h p c (OutOfRange s k) = refused Range h.line (column_of k p)
-ranged h p c (Fits s i) = Ok (Holds (source_of h p i))
+abbrev pub ranged : Head → Pair → ℕ → Result Entry Mismatch → Result Line TextFault
+ranged h p c (Ok e) = Ok (Holds (source_of h p e.instruction))
+ranged h p c (Err (OutOfRange s k)) = refused Range h.line (column_of k p)
+ranged h p c (Err UnknownLetter) = refused Letter h.line c
 
 -- 5: wrong count or form of operands
 abbrev pub formed : Head → ℕ → ℕ → Option Pair → Result Line TextFault
@@ -159,14 +160,18 @@ longest = 80
 abbrev pub allowed : ℕ → Bool
 allowed b = nat_le 32 b && nat_le b 126
 
--- the column of the first byte that is not allowed, or 0
-abbrev pub first_bad : ℕ → List ℕ → ℕ
-first_bad k [] = 0
-first_bad k (b ∷ bs) = cond (allowed b) (first_bad (suc k) bs) k
+-- the column of the first byte that is not allowed
+abbrev pub first_bad : List ℕ → Option ℕ
+first_bad bs = option_map suc (position (λ b. not (allowed b)) bs)
+
+-- 2: a byte that is not allowed
+abbrev pub clean : ℕ → Option ℕ → Result (Unit {0}) TextFault
+clean l None = Ok tt
+clean l (Some c) = refused Character l c
 
 -- line l of a text: 4, 2, 3, 5, 6
 abbrev pub parsed : ℕ → List ℕ → Result Line TextFault
 parsed l bs =
     and_then (require (nat_le (length bs) longest) (text_fault Long l 0)) (λ _.
-    and_then (require (first_bad 1 bs == 0) (text_fault Character l (first_bad 1 bs))) (λ _.
+    and_then (clean l (first_bad bs)) (λ _.
     taken l (tokens 1 true bs)))

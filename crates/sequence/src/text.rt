@@ -1,17 +1,33 @@
 //! What the lines of a text say.
 
+ghost use Rattle.std.specs.Prelude.{◌≡◌};
+ghost use Rattle.sequence.specs.Lines.{text_fault};
+
 use isa::{Instruction, Refusal};
 
 /// Why a text is not translated: line and column, counted from 1, or 0 where there is none to name.
-#[derive(Clone, Copy)]
+#[derive(Clone, Copy, Debug, PartialEq, Eq)]
 pub struct TextFault {
     pub refusal: Refusal,
     pub line: usize,
     pub column: usize,
 }
 
+impl TextFault {
+    /// A refusal at a line and a column.
+    pub fn new(refusal: Refusal, line: usize, column: usize) -> TextFault
+        ensures { result ≡ text_fault refusal line column }
+    {
+        TextFault {
+            refusal,
+            line,
+            column,
+        }
+    }
+}
+
 /// A label as the caller's table has it: its name with 0 after the letters, its line, and the place of that line.
-#[derive(Clone, Copy)]
+#[derive(Clone, Copy, Debug, PartialEq, Eq)]
 pub struct Label {
     pub name: [u8; 8],
     pub line: usize,
@@ -19,28 +35,28 @@ pub struct Label {
 }
 
 /// Where a jump of a text goes to.
-#[derive(Clone, Copy)]
+#[derive(Clone, Copy, Debug, PartialEq, Eq)]
 pub enum Target {
     Place(u16),
     Label([u8; 8]),
 }
 
 /// A place that is written in front of an instruction.
-#[derive(Clone, Copy)]
+#[derive(Clone, Copy, Debug, PartialEq, Eq)]
 pub struct WrittenPlace {
     pub place: u32,
     pub column: usize,
 }
 
 /// A label that is defined in front of an instruction.
-#[derive(Clone, Copy)]
+#[derive(Clone, Copy, Debug, PartialEq, Eq)]
 pub struct Definition {
     pub name: [u8; 8],
     pub column: usize,
 }
 
 /// An instruction line.
-#[derive(Clone, Copy)]
+#[derive(Clone, Copy, Debug, PartialEq, Eq)]
 pub struct Source {
     pub line: usize,
     pub written: Option<WrittenPlace>,
@@ -51,7 +67,7 @@ pub struct Source {
 }
 
 /// A line of a text.
-#[derive(Clone, Copy)]
+#[derive(Clone, Copy, Debug, PartialEq, Eq)]
 pub enum Line {
     Blank,
     /// `at`: a stretch opens at this place.
@@ -60,7 +76,7 @@ pub enum Line {
 }
 
 /// What the translator has put at a place.
-#[derive(Clone, Copy)]
+#[derive(Clone, Copy, Debug, PartialEq, Eq)]
 pub enum Kind {
     Free,
     /// The first byte of an instruction.

@@ -24,6 +24,7 @@ pub enum Mismatch {
 }
 
 /// Looks a letter up with its operands. No other code knows a letter's length or the range of an operand.
+#[tactic(auto, using(crate::proofs::Rows::rows))]
 pub fn look_up(letter: char, operands: Operands) -> Result<Entry, Mismatch>
     ensures { result ≡ entry letter operands }
 {

@@ -5,6 +5,7 @@ ghost use Rattle.sequence.specs.Lines.{text_fault};
 
 use isa::{Instruction, Refusal};
 
+// Stays: 0 and no Option where there is no line or column to name; the answer to a refused text prints the 0.
 /// Why a text is not translated: line and column, counted from 1, or 0 where there is none to name.
 #[derive(Clone, Copy, Debug, PartialEq, Eq)]
 pub struct TextFault {
@@ -41,6 +42,8 @@ pub enum Target {
     Label([u8; 8]),
 }
 
+// Stays: this and `Definition` as two types, a number and a name with a column; in one generic type `place` and `name` would
+// both be `value`.
 /// A place that is written in front of an instruction.
 #[derive(Clone, Copy, Debug, PartialEq, Eq)]
 pub struct WrittenPlace {

@@ -1,5 +1,5 @@
 -- A listing translates into its image.
-use Rattle.std.proofs.Common.{◌≡◌, ℕ, ◌+◌, ◌-◌, ◌<◌, ◌≤◌, Bool, true, false, cond, eqb, leb, ◌⊎◌, List, [], ◌∷◌, length, get_or, Some, Ok, Err, Result, sym, refl, ap, ◌∙◌, subst, inl, inr, ⊎_elim, arith}
+use Rattle.std.proofs.Common.{◌≡◌, ℕ, ◌+◌, ◌-◌, ◌<◌, ◌≤◌, Bool, true, false, cond, eqb, leb, ◌⊎◌, List, [], ◌∷◌, length, get_or, Some, Ok, Err, sym, refl, ap, ◌∙◌, subst, inl, inr, ⊎_elim, arith}
 use lib.ListN.{length-replicate}
 use lib.Seq.{sets, length-sets}
 use Rattle.std.proofs.lemmas.Bool.{and_from, le-leb, eqb-true, or_cases, cases_lt, both_ways}
@@ -25,15 +25,8 @@ use Rattle.relisting.proofs.PrintedLines.{line_bytes, at_bytes, listed_source, a
 use Rattle.relisting.proofs.Chains.{user_low, Chain, Fine, all_fine}
 use Rattle.relisting.proofs.PrintedTexts.{text_lines, printed_lines, no_labels, few_lines}
 use Rattle.relisting.proofs.Walks.{Bytes, Stands, covers, Covered, Contains, whole_walk}
-use Rattle.relisting.proofs.Writes.{sets_out, sets_in}
+use Rattle.layout.proofs.Basics.{ok_then, ok_ok, sets_out, sets_in}
 use Rattle.relisting.proofs.Plans.{same_width, Run, listing_planned}
-
-ok_then : {A B E : Type 0} (r : Result A E) (k : A → Result B E) (y : B) → and_then r k ≡ Ok y → (a : A) × (r ≡ Ok a) × (k a ≡ Ok y)
-ok_then (Ok a) k y e = (a, refl, e)
-ok_then (Err f) k y e = let z : ◌≡◌ {A = ℕ} 0 1 = cc in absurd (omega arith)
-
-ok_ok : {A E : Type 0} (x y : A) → ◌≡◌ {A = Result A E} (Ok x) (Ok y) → x ≡ y
-ok_ok x y e = cc
 
 -- its target, if it has one, is a first byte
 abbrev Goes : Plan → Instruction ℕ → Type 0

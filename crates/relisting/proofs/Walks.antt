@@ -9,7 +9,7 @@ use Rattle.isa.specs.declared.refusal.Refusal.TheVariants.{Area}
 use Rattle.isa.specs.declared.shape.Shape.{Shape}
 use Rattle.isa.specs.declared.shape.Shape.TheVariants.{Plain, Byte, Pair, Word, Target, TargetByte, Signed, Long}
 use Rattle.isa.specs.declared.instruction.Instruction.{Instruction}
-use Rattle.isa.specs.Places.{user, every, all_user}
+use Rattle.isa.specs.Places.{user, all_user}
 use Rattle.isa.specs.Shapes.{width_of}
 use Rattle.isa.specs.Instructions.{letter_of}
 use Rattle.isa.specs.Table.{shape_of}
@@ -19,24 +19,11 @@ use Rattle.sequence.specs.declared.image.ImageFault.{ImageFault}
 use Rattle.sequence.specs.declared.image.Found.{Found}
 use Rattle.sequence.specs.Images.{Content, mark, code, wrong, image_fault, ranged, lettered, read_at, content_at, with_found, found_at, onward, is_code, further, walk}
 use Rattle.sequence.proofs.Contents.{seen}
+use Rattle.layout.proofs.Basics.{every_at}
 use Rattle.relisting.proofs.Chains.{user_low, some_width, Begins, Chain, Ranged}
 
 abbrev pub Bytes : List ℕ → Type 0
 Bytes s = (j : ℕ) → get_or s j 255 < 256
-
--- a test over n places, place by place
-pub every_at : (t : ℕ → Bool) (n p k : ℕ) → every t p n ≡ true → k < n → t (p + k) ≡ true
-every_at t zero p k h l = absurd (omega arith)
-every_at t (suc n) p zero h l = ap t (let x : p + 0 ≡ p = omega arith in x) ∙ go (t p) h
-  where
-    go : (x : Bool) → (x && every t (suc p) n) ≡ true → x ≡ true
-    go true e = refl
-    go false e = e
-every_at t (suc n) p (suc k) h l = ap t (let x : p + suc k ≡ suc p + k = omega arith in x) ∙ every_at t n (suc p) k (go (t p) h) (omega arith)
-  where
-    go : (x : Bool) → (x && every t (suc p) n) ≡ true → every t (suc p) n ≡ true
-    go true e = e
-    go false e = absurd (both_ways false refl e)
 
 -- at most four bytes, made up to four and cut again
 pad : (ts : List ℕ) → length ts ≤ 4 → take (length ts) (padded ts) ≡ ts

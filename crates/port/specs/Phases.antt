@@ -6,11 +6,7 @@ use Rattle.isa.specs.declared.instruction.Direction.TheVariants.{Plus, Minus}
 use Rattle.port.specs.declared.step.Counts.{Counts}
 use Rattle.port.specs.declared.phase.Row.{Row}
 use Rattle.port.specs.declared.phase.Row.TheVariants.{Full, Half, Wave}
-use Rattle.port.specs.declared.phase.PhasePort.{PhasePort}
-use Rattle.port.specs.Steps.{Meaning, unlimited, counted}
-
-abbrev pub phase_meaning : PhasePort → Meaning
-phase_meaning p = record { counts = p.counts; room = unlimited }
+use Rattle.port.specs.Steps.{counted}
 
 -- the sequence table: 1010 is 10, the first phase in the highest bit
 abbrev pub columns_of : Row → List ℕ

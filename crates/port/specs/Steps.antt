@@ -15,6 +15,10 @@ pub record Meaning : Type 0 where
   pub counts : Counts
   pub room : Room
 
+-- a port that has no limit
+abbrev pub without_limit : Counts → Meaning
+without_limit c = record { counts = c; room = unlimited }
+
 abbrev pub modulus : ℕ
 modulus = 4294967296
 

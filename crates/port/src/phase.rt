@@ -1,14 +1,14 @@
 //! Four phases, by a row of the sequence table.
 
 ghost use Rattle.std.specs.Prelude.{◌≡◌, true, slice_index};
-ghost use Rattle.port.specs.Steps.{none};
-ghost use Rattle.port.specs.Phases.{phase_meaning, columns_of, interleaved, column_of, Moves};
+ghost use Rattle.port.specs.Steps.{none, without_limit};
+ghost use Rattle.port.specs.Phases.{columns_of, interleaved, column_of, Moves};
 
 use crate::step::{Counts, StepPort};
 use isa::{Direction, Refusal};
 
 /// A row of the sequence table.
-#[derive(Clone, Copy)]
+#[derive(Clone, Copy, Debug, PartialEq, Eq)]
 pub enum Row {
     /// Two phases at a time.
     Full,
@@ -39,7 +39,7 @@ impl Row {
 }
 
 /// A port that puts out the phases of a motor. It has no limit.
-#[derive(Drop)]
+#[derive(Debug, Drop)]
 pub struct PhasePort {
     counts: Counts,
     row: Row,
@@ -52,7 +52,7 @@ impl PhasePort {
         ensures row { result.row ≡ row }
     {
         PhasePort {
-            counts: Counts { plus: 0, minus: 0 },
+            counts: Counts::default(),
             row,
         }
     }
@@ -62,9 +62,7 @@ impl PhasePort {
         ensures value { result ≡ column_of self.now.counts }
         ensures law { Moves self.now.counts }
     {
-        let plus = self.counts.plus % 8;
-        let minus = self.counts.minus % 8;
-        ((plus + 8 - minus) % 8) as usize
+        (self.counts.plus.wrapping_sub(self.counts.minus) % 8) as usize
     }
 
     /// The phases that are on.
@@ -76,7 +74,7 @@ impl PhasePort {
 }
 
 impl StepPort for PhasePort {
-    ghost meaning = { phase_meaning };
+    ghost meaning = { λ p. without_limit p.counts };
 
     fn step(&mut self, direction: Direction) -> Result<(), Refusal> {
         self.counts = self.counts.with(direction);

@@ -1,8 +1,8 @@
 //! A direction level and a step level that toggles.
 
 ghost use Rattle.std.specs.Prelude.{◌≡◌};
-ghost use Rattle.port.specs.Steps.{none, counted};
-ghost use Rattle.port.specs.Pulses.{pulse_meaning, direction_level, level_for, step_level, Toggles};
+ghost use Rattle.port.specs.Steps.{none, counted, without_limit};
+ghost use Rattle.port.specs.Pulses.{direction_level, level_for, step_level, Toggles};
 
 use crate::step::{Counts, StepPort};
 use isa::{Direction, Refusal};
@@ -11,8 +11,8 @@ use isa::{Direction, Refusal};
 #[derive(Drop)]
 pub struct PulsePort {
     counts: Counts,
-    /// Whether the last step was plus.
-    forward: bool,
+    /// The direction of the last step.
+    last: Option<Direction>,
 }
 
 impl PulsePort {
@@ -22,8 +22,8 @@ impl PulsePort {
         ensures level { direction_level result ≡ 0 }
     {
         PulsePort {
-            counts: Counts { plus: 0, minus: 0 },
-            forward: false,
+            counts: Counts::default(),
+            last: None,
         }
     }
 
@@ -33,17 +33,14 @@ impl PulsePort {
         ensures level { direction_level self.new ≡ level_for direction }
     {
         self.counts = self.counts.with(direction);
-        self.forward = match direction {
-            Direction::Plus => true,
-            Direction::Minus => false,
-        };
+        self.last = Some(direction);
     }
 
     /// 1 after a step plus, 0 after a step minus and at first.
     pub fn direction_level(&self) -> u8
         ensures { result ≡ direction_level self.now }
     {
-        u8::from(self.forward)
+        u8::from(matches!(self.last, Some(Direction::Plus)))
     }
 
     /// Toggles with each step, 0 at first.
@@ -51,12 +48,12 @@ impl PulsePort {
         ensures value { result ≡ step_level self.now.counts }
         ensures law { Toggles self.now.counts }
     {
-        ((self.counts.plus % 2 + self.counts.minus % 2) % 2) as u8
+        (self.counts.plus.wrapping_add(self.counts.minus) % 2) as u8
     }
 }
 
 impl StepPort for PulsePort {
-    ghost meaning = { pulse_meaning };
+    ghost meaning = { λ p. without_limit p.counts };
 
     fn step(&mut self, direction: Direction) -> Result<(), Refusal> {
         self.pulse(direction);

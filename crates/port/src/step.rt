@@ -6,7 +6,7 @@ ghost use Rattle.port.specs.Steps.{Meaning, counted, answered, stepped};
 use isa::{Direction, Refusal};
 
 /// The steps taken each way, modulo 4,294,967,296.
-#[derive(Clone, Copy)]
+#[derive(Clone, Copy, Debug, Default, PartialEq, Eq)]
 pub struct Counts {
     pub plus: u32,
     pub minus: u32,
@@ -20,11 +20,11 @@ impl Counts {
         match direction {
             Direction::Plus => Counts {
                 plus: self.plus.wrapping_add(1),
-                minus: self.minus,
+                ..self
             },
             Direction::Minus => Counts {
-                plus: self.plus,
                 minus: self.minus.wrapping_add(1),
+                ..self
             },
         }
     }

@@ -1,8 +1,9 @@
 -- Reading and writing the bytes is reading and writing the pages.
-use Rattle.std.proofs.Common.{◌≡◌, ℕ, zero, suc, ◌+◌, ◌*◌, ◌/◌, ◌%◌, ◌<◌, ◌≤◌, List, [], ◌∷◌, ◌++◌, length, get_or, take, drop, set, sym, refl, ap, ◌∙◌, append_assoc, arith, length-drop, take-append-drop, length-take, get_or-drop, take_all, get_or-take, drop-drop, take_at, drop-set-lt, drop_at}
-use lib.Seq.{take-set-lt, take-set-le, drop-set-add, paste, take-append-le, drop-append-le}
-use Rattle.store.specs.Memories.{sound, spoilt}
-use Rattle.store.specs.Eeproms.{cut}
+use Rattle.std.proofs.Common.{◌≡◌, ℕ, zero, suc, ◌+◌, ◌*◌, ◌/◌, ◌%◌, ◌<◌, ◌≤◌, true, eqb, ltb, Ok, List, [], ◌∷◌, ◌++◌, length, get_or, take, drop, set, replicate, refl, ap, ◌∙◌, arith, rules, length-append, length-drop, length-set, take-append-drop, length-take, get_or-drop, get_or-take, drop-drop, take_at, drop-set-lt, drop_at}
+use Rattle.std.proofs.lemmas.List.{length-replicate}
+use lib.Seq.{take-set-lt, take-set-le, drop-set-add, take-append-le, drop-append-le}
+use Rattle.store.specs.Memories.{sound, spoilt, reading, writing, written, cleared}
+use Rattle.store.specs.Eeproms.{cut, memory_of}
 
 pub cut_at : (n k : ℕ) (xs : List ℕ) → k < n → get_or (cut n xs) k spoilt ≡ sound (take 256 (drop (256 * k) xs))
 unfolding cut
@@ -50,12 +51,45 @@ cut_page (suc n) (suc k) xs ys zs h l m bs o =
     rw (take-append-le 256 xs (ys ++ zs) long, drop-append-le 256 xs (ys ++ zs) long, take-append-le 256 xs (bs ++ zs) long, drop-append-le 256 xs (bs ++ zs) long)
     (ap (λ ps. sound (take 256 xs) ∷ ps) (cut_page n k (drop 256 xs) ys zs lt short m bs o))
 
-pub cut_clear : (p : ℕ) (xs ys : List ℕ) → p < 8 → length xs ≡ 2048 → length ys ≡ 256 → cut 8 (paste xs (256 * p) ys 256) ≡ set (cut 8 xs) p (sound ys)
-cut_clear p xs ys h l m =
-    let a : List ℕ = take (256 * p) xs in
-    let bs : List ℕ = take 256 (drop (256 * p) xs) in
-    let zs : List ℕ = drop (256 * p + 256) xs in
-    let la : length a ≡ 256 * p = simp length-take (omega arith) in
+pub cut_clear : (q : ℕ) (xs ys : List ℕ) → q < 8 → length xs ≡ 2048 → length ys ≡ 256 → cut 8 (take (256 * q) xs ++ (ys ++ drop 256 (drop (256 * q) xs))) ≡ set (cut 8 xs) q (sound ys)
+cut_clear q xs ys h l m =
+    let a : List ℕ = take (256 * q) xs in
+    let bs : List ℕ = take 256 (drop (256 * q) xs) in
+    let zs : List ℕ = drop 256 (drop (256 * q) xs) in
+    let la : length a ≡ 256 * q = simp length-take (omega arith) in
     let lb : length bs ≡ 256 = simp (length-take, length-drop) (omega arith) in
-    let whole : a ++ (bs ++ zs) ≡ xs = ap (λ t. a ++ (bs ++ t)) (sym (drop-drop 256 (256 * p) xs)) ∙ ap (λ t. a ++ t) (take-append-drop 256 (drop (256 * p) xs)) ∙ take-append-drop (256 * p) xs in
-    ap (cut 8) (append_assoc a (take 256 ys) zs) ∙ ap (λ t. cut 8 (a ++ (t ++ zs))) (take_all 256 ys (omega arith)) ∙ cut_page 8 p a ys zs h la m bs lb ∙ ap (λ t. set (cut 8 t) p (sound ys)) whole
+    let whole : a ++ (bs ++ zs) ≡ xs = ap (λ t. a ++ t) (take-append-drop 256 (drop (256 * q) xs)) ∙ take-append-drop (256 * q) xs in
+    cut_page 8 q a ys zs h la m bs lb ∙ ap (λ t. set (cut 8 t) q (sound ys)) whole
+
+-- what a store means that is lent 2,048 bytes
+pub reading_lent : (p : ℕ) (xs : List ℕ) → length xs ≡ 2048 → p < 2048 → Ok (get_or xs p 0) ≡ reading p (memory_of xs)
+reading_lent p xs l h =
+    let len : eqb (length xs) 2048 ≡ true = search rules in
+    let low : ltb p 2048 ≡ true = search rules in
+    let lt : p / 256 < 8 = omega arith in
+    simp (len, low, cut_at 8 (p / 256) xs lt, cut_read p xs h)
+
+pub writing_lent : (p : ℕ) (xs : List ℕ) → length xs ≡ 2048 → p < 2048 → Ok tt ≡ writing p (memory_of xs)
+writing_lent p xs l h =
+    let len : eqb (length xs) 2048 ≡ true = search rules in
+    let low : ltb p 2048 ≡ true = search rules in
+    let lt : p / 256 < 8 = omega arith in
+    simp (len, low, cut_at 8 (p / 256) xs lt)
+
+pub written_lent : (p b : ℕ) (xs : List ℕ) → length xs ≡ 2048 → p < 2048 → memory_of (set xs p b) ≡ written p b (memory_of xs)
+written_lent p b xs l h =
+    let len : eqb (length xs) 2048 ≡ true = search rules in
+    let low : ltb p 2048 ≡ true = search rules in
+    let lt : p / 256 < 8 = omega arith in
+    let e : 256 * (p / 256) + p % 256 ≡ p = omega arith in
+    let s = cut_set 8 (p / 256) (p % 256) xs b lt (omega arith) in
+    let s' = rw e at s in
+    simp (length-set, len, low, cut_at 8 (p / 256) xs lt, s')
+
+pub cleared_lent : (q : ℕ) (xs : List ℕ) → length xs ≡ 2048 → q < 8 → memory_of (take (256 * q) xs ++ (replicate 256 255 ++ drop 256 (drop (256 * q) xs))) ≡ cleared q (memory_of xs)
+cleared_lent q xs l h =
+    let len : eqb (length xs) 2048 ≡ true = search rules in
+    let low : ltb q 8 ≡ true = search rules in
+    let long : length (take (256 * q) xs ++ (replicate 256 255 ++ drop 256 (drop (256 * q) xs))) ≡ 2048 = simp (length-append, length-take, length-drop, length-replicate) (omega arith) in
+    let len' : eqb (length (take (256 * q) xs ++ (replicate 256 255 ++ drop 256 (drop (256 * q) xs)))) 2048 ≡ true = search rules in
+    simp (len', len, low, cut_clear q xs (replicate 256 255) h l refl)

@@ -1,10 +1,11 @@
 //! An edit: bytes put at successive places.
 
-ghost use Rattle.std.specs.Prelude.{◌≡◌, ◌+◌, MatchResult, OnErr};
+ghost use Rattle.std.specs.Prelude.{◌≡◌, ◌+◌, cond, IsTrue, OnOk, MatchResult, OnErr};
+ghost use Rattle.isa.specs.Places.{user};
 ghost use Rattle.store.specs.Edits.{no_user_place, opened, putting, put, ended};
 
 use crate::store::{Store, StoreFault};
-use isa::{Refusal, is_user_place};
+use isa::{Refusal, is_user_place, page_of};
 
 /// An opened edit, beside the store that it edits. It is closed once, by ending or by leaving: its type is not `Drop`, so
 /// that code which lets one go is refused.
@@ -17,9 +18,7 @@ impl Edit {
     pub fn open(place: u16) -> Result<Edit, StoreFault>
         ensures { result ≡ opened place }
     {
-        if !is_user_place(place) {
-            return Err(no_user_place(place));
-        }
+        check(place)?;
         Ok(Edit { next: place })
     }
 
@@ -30,12 +29,8 @@ impl Edit {
         ensures kept { OnErr result (store.new ≡ store.old) }
         ensures next { MatchResult result (λ _. self.new.next ≡ self.old.next + 1) (λ _. self.new.next ≡ self.old.next) }
     {
-        let place = self.next;
-        if !is_user_place(place) {
-            return Err(no_user_place(place));
-        }
-        store.write(place, byte)?;
-        self.next = place + 1;
+        put_at(store, self.next, byte)?;
+        self.next += 1;
         Ok(())
     }
 
@@ -46,13 +41,7 @@ impl Edit {
         ensures kept { OnErr result (store.new ≡ store.old) }
     {
         let Edit { next } = self;
-        if !is_user_place(next) {
-            return Err((Edit { next }, no_user_place(next)));
-        }
-        match store.write(next, 255) {
-            Ok(()) => Ok(()),
-            Err(fault) => Err((Edit { next }, fault)),
-        }
+        put_at(store, next, 255).map_err(|fault| (Edit { next }, fault))
     }
 
     /// Closes the edit without a mark.
@@ -61,11 +50,23 @@ impl Edit {
     }
 }
 
-fn no_user_place(place: u16) -> StoreFault
-    ensures { result ≡ no_user_place place }
+/// Writes a byte at a user place.
+fn put_at<S: Store>(store: &mut S, place: u16, byte: u8) -> Result<(), StoreFault>
+    ensures answer { result ≡ putting place (S.memory store.old) }
+    ensures after { S.memory store.new ≡ put place byte (S.memory store.old) }
+    ensures kept { OnErr result (store.new ≡ store.old) }
+    ensures within { OnOk result (IsTrue (user place)) }
 {
-    StoreFault {
-        refusal: Refusal::Area,
-        page: place / 256,
+    check(place)?;
+    store.write(place, byte)
+}
+
+/// Refuses a place that is no user place.
+fn check(place: u16) -> Result<(), StoreFault>
+    ensures { result ≡ cond (user place) (Ok tt) (Err (no_user_place place)) }
+{
+    if !is_user_place(place) {
+        return Err(StoreFault::new(Refusal::Area, page_of(place)));
     }
+    Ok(())
 }

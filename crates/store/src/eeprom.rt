@@ -1,11 +1,11 @@
 //! An EEPROM: 2,048 bytes, never spoilt.
 
-ghost use Rattle.std.specs.Prelude.{◌≡◌, ◌+◌, ◌≤◌, length, replicate};
-ghost use Rattle.std.proofs.Math.Seq.{paste};
+ghost use Rattle.std.specs.Prelude.{◌≡◌, ◌<◌, length, OnOk};
+ghost use Rattle.store.specs.Memories.{clearing};
 ghost use Rattle.store.specs.Eeproms.{eeprom, memory_of};
 
 use crate::store::{Store, StoreFault};
-use isa::Refusal;
+use isa::{Refusal, page_of};
 
 const SIZE: usize = 2_048;
 
@@ -14,7 +14,7 @@ const PAGES: u16 = 8;
 const PAGE_SIZE: usize = 256;
 
 /// Memory that is lent. Of another size than 2,048 bytes it is an absent store.
-#[derive(Drop)]
+#[derive(Debug, Drop)]
 pub struct Eeprom<'a> {
     bytes: &'a mut [u8],
 }
@@ -26,56 +26,41 @@ impl<'a> Eeprom<'a> {
     {
         Eeprom { bytes }
     }
-}
 
-fn fault(refusal: Refusal, page: u16) -> StoreFault
-    ensures { result ≡ record { refusal = refusal; page = page } }
-{
-    StoreFault { refusal, page }
+    /// Refuses every page of an absent store, and a page past the last.
+    fn check(&self, page: u16) -> Result<(), StoreFault>
+        ensures answer { result ≡ clearing page (eeprom self.now) }
+        ensures present { OnOk result (length self.now.bytes.now ≡ 2048) }
+        ensures within { OnOk result (page < 8) }
+    {
+        if self.bytes.len() != SIZE {
+            return Err(StoreFault::new(Refusal::Absent, page));
+        }
+        if page >= PAGES {
+            return Err(StoreFault::new(Refusal::Area, page));
+        }
+        Ok(())
+    }
 }
 
 impl Store for Eeprom<'_> {
     ghost memory = { eeprom };
 
     fn read(&self, place: u16) -> Result<u8, StoreFault> {
-        if self.bytes.len() != SIZE {
-            return Err(fault(Refusal::Absent, place / 256));
-        }
-        if place as usize >= SIZE {
-            return Err(fault(Refusal::Area, place / 256));
-        }
-        Ok(self.bytes[place as usize])
+        self.check(page_of(place))?;
+        Ok(self.bytes[usize::from(place)])
     }
 
     fn write(&mut self, place: u16, byte: u8) -> Result<(), StoreFault> {
-        if self.bytes.len() != SIZE {
-            return Err(fault(Refusal::Absent, place / 256));
-        }
-        if place as usize >= SIZE {
-            return Err(fault(Refusal::Area, place / 256));
-        }
-        self.bytes[place as usize] = byte;
+        self.check(page_of(place))?;
+        self.bytes[usize::from(place)] = byte;
         Ok(())
     }
 
     fn clear(&mut self, page: u16) -> Result<(), StoreFault> {
-        if self.bytes.len() != SIZE {
-            return Err(fault(Refusal::Absent, page));
-        }
-        if page >= PAGES {
-            return Err(fault(Refusal::Area, page));
-        }
-        erase(self.bytes, PAGE_SIZE * page as usize);
+        self.check(page)?;
+        let start = PAGE_SIZE * usize::from(page);
+        self.bytes[start..start + PAGE_SIZE].fill(255);
         Ok(())
-    }
-}
-
-/// A page of 255s.
-fn erase(bytes: &mut [u8], start: usize)
-    requires { start + 256 ≤ length bytes.old }
-    ensures { bytes.new ≡ paste bytes.old start (replicate 256 255) 256 }
-{
-    for i in 0..PAGE_SIZE {
-        bytes[start + i] = 255;
     }
 }

@@ -12,6 +12,15 @@ pub struct StoreFault {
     pub page: u16,
 }
 
+impl StoreFault {
+    /// A refusal at a page.
+    pub fn new(refusal: Refusal, page: u16) -> StoreFault
+        ensures { result ≡ record { refusal = refusal; page = page } }
+    {
+        StoreFault { refusal, page }
+    }
+}
+
 /// A memory of eight pages. What it means is its pages, each spoilt or 256 bytes, or that it is absent.
 pub trait Store {
     ghost memory: { Self → Memory };

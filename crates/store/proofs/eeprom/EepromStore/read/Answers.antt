@@ -1,12 +1,8 @@
-use Rattle.std.proofs.Common.{◌≡◌, ◌/◌, ◌<◌, true, eqb, ltb, length, arith, rules}
-use Rattle.store.proofs.Cuts.{cut_at, cut_read}
+use Rattle.std.proofs.Common.{◌<◌, arith}
+use Rattle.store.proofs.Cuts.{reading_lent}
 use Rattle.store.proofs.eeprom.EepromStore.read.Goals as goal
 
 pub returns : goal.returns
 returns c =
-    let xs = c.args.self.now.bytes.now in
-    let p = c.args.place in
-    let lt : p / 256 < 8 = omega arith in
-    let len : eqb (length xs) 2048 ≡ true = search rules in
-    let low : ltb p 2048 ≡ true = search rules in
-    simp (len, low, cut_at 8 (p / 256) xs lt, cut_read p xs (omega arith))
+    let low : c.args.place < 2048 = omega (arith, c.in_ok-check.ensures.within) in
+    simp c.from.ensures (reading_lent c.args.place c.args.self.now.bytes.now c.in_ok-check.ensures.present low)

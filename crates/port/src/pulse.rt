@@ -8,7 +8,7 @@ use crate::step::{Counts, StepPort};
 use isa::{Direction, Refusal};
 
 /// A port for a drive that takes a direction and pulses. It has no limit.
-#[derive(Drop)]
+#[derive(Debug, Default, Drop)]
 pub struct PulsePort {
     counts: Counts,
     /// The direction of the last step.
@@ -21,10 +21,7 @@ impl PulsePort {
         ensures counts { result.counts ≡ none }
         ensures level { direction_level result ≡ 0 }
     {
-        PulsePort {
-            counts: Counts::default(),
-            last: None,
-        }
+        PulsePort::default()
     }
 
     /// One pulse: the direction level is that of the step, and the step level toggles.
@@ -40,7 +37,7 @@ impl PulsePort {
     pub fn direction_level(&self) -> u8
         ensures { result ≡ direction_level self.now }
     {
-        u8::from(matches!(self.last, Some(Direction::Plus)))
+        u8::from(self.last == Some(Direction::Plus))
     }
 
     /// Toggles with each step, 0 at first.

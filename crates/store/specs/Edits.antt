@@ -1,13 +1,13 @@
 -- An edit: 8 for no user place, before the store's own checks.
-use Rattle.std.specs.Prelude.{ℕ, ◌/◌, cond, Ok, Err, Result}
+use Rattle.std.specs.Prelude.{ℕ, cond, Ok, Err, Result}
 use Rattle.isa.specs.declared.refusal.Refusal.TheVariants.{Area}
-use Rattle.isa.specs.Places.{user}
+use Rattle.isa.specs.Places.{user, page}
 use Rattle.store.specs.declared.store.StoreFault.{StoreFault}
 use Rattle.store.specs.declared.edit.Edit.{Edit}
-use Rattle.store.specs.Memories.{Memory, page_size, writing, written}
+use Rattle.store.specs.Memories.{Memory, writing, written}
 
 abbrev pub no_user_place : ℕ → StoreFault
-no_user_place p = record { refusal = Area; page = p / page_size }
+no_user_place p = record { refusal = Area; page = page p }
 
 abbrev pub opened : ℕ → Result Edit StoreFault
 opened p = cond (user p) (Ok (record { next = p })) (Err (no_user_place p))

@@ -1,8 +1,8 @@
 -- The EEPROM.
 use Rattle.std.specs.Prelude.{ℕ, zero, suc, cond, List, [], ◌∷◌, length, take, drop, ◌==◌}
-use Rattle.isa.specs.Places.{image_size}
+use Rattle.isa.specs.Places.{image_size, page_size}
 use Rattle.store.specs.declared.eeprom.Eeprom.{Eeprom}
-use Rattle.store.specs.Memories.{Page, sound, Memory, absent, present, pages, page_size}
+use Rattle.store.specs.Memories.{Page, sound, Memory, absent, present, pages}
 
 -- the first n pages of some bytes, all sound
 unfoldable pub cut : ℕ → List ℕ → List Page

@@ -5,10 +5,11 @@ ghost use Rattle.isa.specs.Places.{user};
 ghost use Rattle.store.specs.Edits.{no_user_place, opened, putting, put, ended};
 
 use crate::store::{Store, StoreFault};
-use isa::{Refusal, is_user_place, page_of};
+use isa::{MARK, Refusal, is_user_place, page_of};
 
 /// An opened edit, beside the store that it edits. It is closed once, by ending or by leaving: its type is not `Drop`, so
 /// that code which lets one go is refused.
+#[derive(Debug)]
 pub struct Edit {
     next: u16,
 }
@@ -18,7 +19,7 @@ impl Edit {
     pub fn open(place: u16) -> Result<Edit, StoreFault>
         ensures { result ≡ opened place }
     {
-        check(place)?;
+        check_user_place(place)?;
         Ok(Edit { next: place })
     }
 
@@ -41,7 +42,7 @@ impl Edit {
         ensures kept { OnErr result (store.new ≡ store.old) }
     {
         let Edit { next } = self;
-        put_at(store, next, 255).map_err(|fault| (Edit { next }, fault))
+        put_at(store, next, MARK).map_err(|fault| (Edit { next }, fault))
     }
 
     /// Closes the edit without a mark.
@@ -57,12 +58,12 @@ fn put_at<S: Store>(store: &mut S, place: u16, byte: u8) -> Result<(), StoreFaul
     ensures kept { OnErr result (store.new ≡ store.old) }
     ensures within { OnOk result (IsTrue (user place)) }
 {
-    check(place)?;
+    check_user_place(place)?;
     store.write(place, byte)
 }
 
 /// Refuses a place that is no user place.
-fn check(place: u16) -> Result<(), StoreFault>
+fn check_user_place(place: u16) -> Result<(), StoreFault>
     ensures { result ≡ cond (user place) (Ok tt) (Err (no_user_place place)) }
 {
     if !is_user_place(place) {

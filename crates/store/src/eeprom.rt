@@ -5,17 +5,14 @@ ghost use Rattle.store.specs.Memories.{clearing};
 ghost use Rattle.store.specs.Eeproms.{eeprom, memory_of};
 
 use crate::store::{Store, StoreFault};
-use isa::{Refusal, page_of};
-
-const SIZE: usize = 2_048;
+use isa::{IMAGE_SIZE, MARK, PAGE_SIZE, Refusal, page_of};
 
 const PAGES: u16 = 8;
-
-const PAGE_SIZE: usize = 256;
 
 /// Memory that is lent. Of another size than 2,048 bytes it is an absent store.
 #[derive(Debug, Drop)]
 pub struct Eeprom<'a> {
+    // Stays: a slice. Through `Option<&mut [u8; IMAGE_SIZE]>` no proof covers a read, or finds what a write leaves.
     bytes: &'a mut [u8],
 }
 
@@ -28,12 +25,12 @@ impl<'a> Eeprom<'a> {
     }
 
     /// Refuses every page of an absent store, and a page past the last.
-    fn check(&self, page: u16) -> Result<(), StoreFault>
+    fn check_page(&self, page: u16) -> Result<(), StoreFault>
         ensures answer { result ≡ clearing page (eeprom self.now) }
         ensures present { OnOk result (length self.now.bytes.now ≡ 2048) }
         ensures within { OnOk result (page < 8) }
     {
-        if self.bytes.len() != SIZE {
+        if self.bytes.len() != IMAGE_SIZE {
             return Err(StoreFault::new(Refusal::Absent, page));
         }
         if page >= PAGES {
@@ -47,20 +44,20 @@ impl Store for Eeprom<'_> {
     ghost memory = { eeprom };
 
     fn read(&self, place: u16) -> Result<u8, StoreFault> {
-        self.check(page_of(place))?;
+        self.check_page(page_of(place))?;
         Ok(self.bytes[usize::from(place)])
     }
 
     fn write(&mut self, place: u16, byte: u8) -> Result<(), StoreFault> {
-        self.check(page_of(place))?;
+        self.check_page(page_of(place))?;
         self.bytes[usize::from(place)] = byte;
         Ok(())
     }
 
     fn clear(&mut self, page: u16) -> Result<(), StoreFault> {
-        self.check(page)?;
+        self.check_page(page)?;
         let start = PAGE_SIZE * usize::from(page);
-        self.bytes[start..start + PAGE_SIZE].fill(255);
+        self.bytes[start..start + PAGE_SIZE].fill(MARK);
         Ok(())
     }
 }

@@ -6,7 +6,7 @@ ghost use Rattle.store.specs.Memories.{Memory, reading, writing, clearing, writt
 use isa::Refusal;
 
 /// Why a store refuses, and the page that was asked for.
-#[derive(Clone, Copy)]
+#[derive(Clone, Copy, Debug, PartialEq, Eq)]
 pub struct StoreFault {
     pub refusal: Refusal,
     pub page: u16,

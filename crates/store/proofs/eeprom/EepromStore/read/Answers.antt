@@ -4,5 +4,5 @@ use Rattle.store.proofs.eeprom.EepromStore.read.Goals as goal
 
 pub returns : goal.returns
 returns c =
-    let low : c.args.place < 2048 = omega (arith, c.in_ok-check.ensures.within) in
-    simp c.from.ensures (reading_lent c.args.place c.args.self.now.bytes.now c.in_ok-check.ensures.present low)
+    let low : c.args.place < 2048 = omega (arith, c.in_ok-check_page.ensures.within) in
+    simp c.from.ensures (reading_lent c.args.place c.args.self.now.bytes.now c.in_ok-check_page.ensures.present low)

@@ -45,7 +45,7 @@ impl PulsePort {
         ensures value { result ≡ step_level self.now.counts }
         ensures law { Toggles self.now.counts }
     {
-        (self.counts.plus.wrapping_add(self.counts.minus) % 2) as u8
+        u8::from(self.counts.plus.wrapping_add(self.counts.minus) % 2 == 1)
     }
 }
 

@@ -12,7 +12,7 @@ const PAGES: u16 = 8;
 /// Memory that is lent. Of another size than 2,048 bytes it is an absent store.
 #[derive(Debug, Drop)]
 pub struct Eeprom<'a> {
-    // Stays: a slice. Through `Option<&mut [u8; IMAGE_SIZE]>` no proof covers a read, or finds what a write leaves.
+    // Stays: a slice. An `Option` of an array would be taken apart by each call before its check, and be no plainer.
     bytes: &'a mut [u8],
 }
 

@@ -5,6 +5,7 @@ ghost use Rattle.store.specs.Memories.{Memory, reading, writing, clearing, writt
 
 use isa::Refusal;
 
+// Stays: a type beside `ImageFault`, which has a place; a page is no place, and one type for both would be no plainer.
 /// Why a store refuses, and the page that was asked for.
 #[derive(Clone, Copy, Debug, PartialEq, Eq)]
 pub struct StoreFault {

@@ -1,7 +1,7 @@
 -- The line in front of a text.
 use Rattle.std.proofs.Common.{◌≡◌, ℕ, suc, ◌+◌, ◌<◌, ◌≤◌, Option, Some, None, Bor, Bool, true, false, eqb, List, [], ◌∷◌, length, take, drop, sym, refl, ap, ◌∙◌, arith, rules}
 use Rattle.std.specs.Prelude.{not, take_while, ◌==◌}
-use Rattle.std.specs.List.{prefix_len}
+use Rattle.std.specs.List.{position_or_len}
 use Rattle.std.specs.Option.{unwrap_or}
 use Rattle.std.specs.Slice.{IsGetRangeResult}
 use Rattle.std.proofs.lemmas.List.{drop_all, take_rest}
@@ -30,11 +30,10 @@ front_is [] = refl
 front_is (b ∷ bs) = grind (arith, front_is bs, take_while-cons (λ x. not (x == 10)) b bs)
 
 -- the line in front goes up to its line feed, and the others follow
-pub cut_line : (s : List ℕ) (n : ℕ) → 0 < length s → n ≡ length (take_while (λ b. not (b == 10)) s) → lines s ≡ take n s ∷ lines (drop (n + 1) s)
+pub cut_line : (s : List ℕ) (n : ℕ) → 0 < length s → n ≡ position_or_len (λ b. b == 10) s → lines s ≡ take n s ∷ lines (drop (n + 1) s)
 cut_line s n some e =
-    let p : prefix_len (λ b. not (b == 10)) s ≡ n = sym (length-prefix_len (λ b. not (b == 10)) s) ∙ sym e in
-    let f : front s ≡ take n s = front_is s ∙ ap (λ k. take k s) p in
-    let d : suc (length (front s)) ≡ n + 1 = omega (arith, ap length (front_is s), e) in
+    let f : front s ≡ take n s = front_is s ∙ ap (λ k. take k s) (sym e) in
+    let d : suc (length (front s)) ≡ n + 1 = omega (arith, ap length (front_is s) ∙ length-prefix_len (λ b. not (b == 10)) s, e) in
     first_line s some ∙ (λ i. f i ∷ lines (drop (d i) s))
 
 pub after_feed : (s : List ℕ) (n : ℕ) (r : Option (Bor (List ℕ))) (none : Bor (List ℕ)) → none.now ≡ [] → IsGetRangeResult s n (length s) r → (unwrap_or r none).now ≡ drop n s

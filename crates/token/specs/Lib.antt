@@ -1,2 +1,3 @@
-pub mod Spots
 pub mod Kinds
+pub mod Rests
+pub mod Spots

@@ -1,7 +1,8 @@
 //! The lines of a text, one by one.
 
-ghost use Rattle.std.specs.Prelude.{◌≡◌, ◌≤◌, ◌==◌, not, length, take_while};
+ghost use Rattle.std.specs.Prelude.{◌≡◌, ◌≤◌, ◌==◌, length};
 ghost use Rattle.std.specs.Iterator.{YieldsFirstRef, item_count};
+ghost use Rattle.std.specs.List.{position_or_len};
 ghost use Rattle.sequence.specs.Texts.{lines};
 
 use std::marker::Model;
@@ -52,7 +53,7 @@ impl<'a> Iterator for Lines<'a> {
 /// How many bytes the line in front has: those before the next line feed, or before the end.
 fn line_len(text: &[u8]) -> usize
     ensures within { result ≤ length text.now }
-    ensures size { result ≡ length (take_while (λ b. not (b == 10)) text.now) }
+    ensures size { result ≡ position_or_len (λ b. b == 10) text.now }
 {
     text.iter().take_while(|b| **b != b'\n').count()
 }

@@ -1,23 +1,39 @@
 //! The tokens of a line, one by one.
 
-ghost use Rattle.std.specs.Prelude.{◌≡◌, ℕ, ◌+◌, ◌<◌, ◌≤◌, true, false, length, drop, slice_index};
-ghost use Rattle.sequence.specs.Texts.{gap, word, tokens};
-ghost use Rattle.token.specs.Spots.{left, Gives};
+ghost use Rattle.std.specs.Prelude.{◌≡◌, ◌≤◌, true, length};
+ghost use Rattle.std.specs.List.{position_or_len, prefix_len};
+ghost use Rattle.std.specs.Iterator.{YieldsFirstBy, item_count};
+ghost use Rattle.sequence.specs.Texts.{gap, tokens};
+ghost use Rattle.token.specs.Spots.{left, token_of, Gives};
+
+use std::marker::Model;
 
 /// A token and where it begins; line and column count from 1.
-#[derive(Clone, Copy)]
+#[derive(Clone, Copy, Debug, PartialEq, Eq)]
 pub struct Spot<'a> {
     pub line: usize,
     pub column: usize,
     pub text: &'a [u8],
 }
 
-/// A line, its number, and how far it has been read.
-#[derive(Clone, Copy)]
+/// The tokens of a line that are still to come, and the number of the line.
+#[derive(Clone, Debug, Drop)]
 pub struct Scanner<'a> {
     line: usize,
-    text: &'a [u8],
-    at: usize,
+    column: usize,
+    rest: &'a [u8],
+}
+
+impl<'a> Model for Scanner<'a> {
+    ghost use Rattle.std.specs.Prelude.{◌+◌, ◌^◌, ◌<◌, true, length};
+    ghost use Rattle.sequence.specs.Texts.{tokens};
+    ghost use Rattle.token.specs.Rests.{Rest};
+
+    ghost Value = { Rest };
+
+    ghost view = { λ s. record { line = s.line; tokens = tokens s.column true s.rest.now } };
+
+    ghost invariant = { λ s. s.column + length s.rest.now < 2 ^ 64 };
 }
 
 impl<'a> Scanner<'a> {
@@ -25,30 +41,38 @@ impl<'a> Scanner<'a> {
     pub fn new(line: usize, text: &'a [u8]) -> Scanner<'a>
         ensures number { result.line ≡ line }
         ensures tokens { left result ≡ tokens 1 true text.now }
+        ensures few { length (left result) ≤ length text.now }
     {
-        Scanner { line, text, at: 0 }
+        Scanner {
+            line,
+            column: 1,
+            rest: text,
+        }
     }
+}
 
-    /// The next token, or `None` where there is none.
-    pub fn next(&mut self) -> Option<Spot<'a>>
+impl<'a> Iterator for Scanner<'a> {
+    type Item = Spot<'a>;
+
+    ghost next_gives = { YieldsFirstBy token_of left };
+
+    ghost remaining = { item_count left };
+
+    fn next(&mut self) -> Option<Spot<'a>>
         ensures { Gives result self.old self.new }
     {
-        if self.at >= self.text.len() {
-            return None;
-        }
-        let rest = &self.text[self.at..];
-        let n = gaps(rest);
-        let from = &rest[n..];
-        let w = word_len(from);
-        let start = self.at + n;
-        self.at = start + w;
-        if w == 0 {
+        let (gaps, from) = self.rest.split_at(gaps_len(self.rest));
+        let (text, rest) = from.split_at(word_len(from));
+        let column = self.column + gaps.len();
+        self.column = column + text.len();
+        self.rest = rest;
+        if text.is_empty() {
             return None;
         }
         Some(Spot {
             line: self.line,
-            column: start + 1,
-            text: &from[0..w],
+            column,
+            text,
         })
     }
 }
@@ -60,26 +84,17 @@ fn is_gap(b: u8) -> bool
 }
 
 /// How many gaps stand in front.
-fn gaps(s: &[u8]) -> usize
+fn gaps_len(s: &[u8]) -> usize
     ensures within { result ≤ length s.now }
-    ensures stops { result < length s.now → gap (slice_index s.now result) ≡ false }
-    ensures same { (k : ℕ) → tokens (k + result) true (drop result s.now) ≡ tokens k true s.now }
+    ensures size { result ≡ prefix_len gap s.now }
 {
-    let mut n = 0;
-    while n < s.len() && is_gap(s[n]) {
-        n += 1;
-    }
-    n
+    s.iter().take_while(|b| is_gap(**b)).count()
 }
 
 /// How many bytes the token in front has.
 fn word_len(s: &[u8]) -> usize
     ensures within { result ≤ length s.now }
-    ensures size { result ≡ length (word s.now) }
+    ensures size { result ≡ position_or_len gap s.now }
 {
-    let mut n = 0;
-    while n < s.len() && !is_gap(s[n]) {
-        n += 1;
-    }
-    n
+    s.iter().take_while(|b| !is_gap(**b)).count()
 }

@@ -1,25 +1,29 @@
 -- A name, letter by letter.
-use Rattle.std.proofs.Common.{◌≡◌, ℕ, zero, suc, ◌+◌, ◌-◌, ◌<◌, ◌≤◌, Bool, true, false, eqb, leb, List, [], ◌∷◌, ◌++◌, length, get_or, take, set, replicate, sym, ap, ◌∙◌, arith}
-use Rattle.std.proofs.lemmas.List.{set_at, take_more, take_all, length-take-le, append_assoc, take_at, length-append, length-replicate, replicate-append-replicate}
+use Rattle.std.proofs.Common.{◌≡◌, ℕ, zero, suc, ◌-◌, ◌<◌, ◌≤◌, Bool, true, false, eqb, leb, List, [], ◌∷◌, ◌++◌, length, get_or, take, drop, replicate, min, sym, refl, ap, ◌∙◌, arith}
+use Rattle.std.proofs.lemmas.List.{take_min, take-replicate, length-take}
 use Rattle.std.proofs.lemmas.Bool.{and_parts, and_left, and_right, leb-true}
 use Rattle.std.proofs.lemmas.Bool.Decides.{nat_tests}
+use Rattle.std.specs.Prelude.{◌&&◌}
+use Rattle.std.specs.List.{list_all}
 use Rattle.sequence.specs.Texts as Texts
 use Rattle.sequence.specs.Texts.{name_of, digit, is_digits, is_name, is_label}
 
-pub name_more : (name : List ℕ) (i b : ℕ) → i < length name → length name ≤ 8 → b ≡ get_or name i 0 → set (take i name ++ replicate (8 - i) 0) i b ≡ take (i + 1) name ++ replicate (8 - (i + 1)) 0
-name_more name i b lt le e =
-    ap (λ k. set (take i name ++ replicate k 0) i b) (let x : 8 - i ≡ suc (8 - (i + 1)) = omega arith in x)
-    ∙ set_at (take i name) 0 (replicate (8 - (i + 1)) 0) b i (length-take-le i name (omega arith))
-    ∙ sym (append_assoc (take i name) (b ∷ []) (replicate (8 - (i + 1)) 0))
-    ∙ ap (λ l. l ++ replicate (8 - (i + 1)) 0) (ap (λ y. take i name ++ (y ∷ [])) e ∙ sym (take_more name i 0 lt))
+pad : (k m : ℕ) (name : List ℕ) → k ≤ m → take k name ++ drop (length (take k name)) (replicate k 0) ≡ take k (name ++ replicate m 0)
+pad zero m name h = refl
+pad (suc k) m [] h = sym (take-replicate (suc k) m 0 h)
+pad (suc k) m (b ∷ bs) h = ap (λ l. b ∷ l) (pad k m bs (omega arith))
 
-pub name_all : (name : List ℕ) (i : ℕ) → length name ≤ i → length name ≤ 8 → i ≤ length name → take i name ++ replicate (8 - i) 0 ≡ name_of name
-name_all name i le short lt =
-    let n : i ≡ length name = omega arith in
-    ap (λ l. l ++ replicate (8 - i) 0) (take_all i name le)
-    ∙ ap (λ k. name ++ replicate (8 - k) 0) n
-    ∙ sym (ap (take 8) (ap (λ l. name ++ l) (ap (λ k. replicate k 0) (let x : 8 ≡ 8 - length name + length name = omega arith in x) ∙ sym (replicate-append-replicate (8 - length name) (length name) 0)) ∙ sym (append_assoc name (replicate (8 - length name) 0) (replicate (length name) 0)))
-    ∙ take_at (name ++ replicate (8 - length name) 0) (replicate (length name) 0) 8 (length-append name (replicate (8 - length name) 0) ∙ ap (λ k. length name + k) (length-replicate (8 - length name) 0) ∙ (let x : length name + (8 - length name) ≡ 8 = omega arith in x)))
+-- the letters, as many as there is room for, over eight zeros
+pub padded : (name : List ℕ) (n : ℕ) → n ≡ min (length name) 8 → take n name ++ drop n (replicate 8 0) ≡ name_of name
+padded name n e =
+    let m : n ≡ min 8 (length name) = omega (arith, e) in
+    let t : take n name ≡ take 8 name = ap (λ k. take k name) m ∙ take_min 8 name in
+    let l : n ≡ length (take 8 name) = m ∙ sym (length-take 8 name) in
+    (λ i. t i ++ drop (l i) (replicate 8 0)) ∙ pad 8 8 name (omega arith)
+
+pub every_is : (p : ℕ → Bool) (bs : List ℕ) → Texts.every p bs ≡ list_all p bs
+every_is p [] = refl
+every_is p (b ∷ bs) = ap (λ t. p b && t) (every_is p bs)
 
 -- a test of every byte, byte by byte
 every_at : (p : ℕ → Bool) (bs : List ℕ) (k : ℕ) → k < length bs → Texts.every p bs ≡ true → p (get_or bs k 0) ≡ true

@@ -8,7 +8,7 @@ ghost use Rattle.sequence.specs.Texts.{lines};
 use std::marker::Model;
 
 /// The lines of a text that are still to come, each without its line feed.
-#[derive(Debug, Drop)]
+#[derive(Clone, Debug, Drop)]
 pub struct Lines<'a> {
     rest: &'a [u8],
 }

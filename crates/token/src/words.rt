@@ -1,15 +1,15 @@
 //! What a token can be.
 
-ghost use Rattle.std.specs.Prelude.{◌≡◌, ◌<◌, ◌≤◌, true, length, pos, neg_ℤ, codes};
+ghost use Rattle.std.specs.Prelude.{◌≡◌, ◌-◌, ◌<◌, ◌≤◌, true, cond, Some, None, length, take, codes};
 ghost use Rattle.std.specs.Option.{option_map};
 ghost use Rattle.std.specs.Str.{bytes_eq};
-ghost use Rattle.sequence.specs.Texts.{every, small, digit, is_name, name_of, is_label, label_name, read_on, is_digits, magnitude, unsigned_of, number_of, place_of};
+ghost use Rattle.sequence.specs.Texts.{every, digit, is_name, name_of, is_label, read_on, is_digits, magnitude, unsigned_of, number_of, place_of};
 ghost use Rattle.token.specs.Kinds.{Shown, as_name, as_label};
 
 use crate::scanner::Spot;
 
 /// A token by its shape, with its bytes, its line and its column.
-#[derive(Clone, Copy)]
+#[derive(Clone, Copy, Debug, PartialEq, Eq)]
 pub enum Token<'a> {
     /// One to eight digits.
     Place(Spot<'a>),
@@ -27,38 +27,38 @@ const MOST_LETTERS: usize = 8;
 
 const TOO_LONG: u32 = 100_000_000;
 
-fn is_digit(b: u8) -> bool
-    ensures { result ≡ digit b }
+/// Digits alone, one or more.
+fn is_digits(s: &[u8]) -> bool
+    ensures { result ≡ is_digits s.now }
 {
-    b >= b'0' && b <= b'9'
+    !s.is_empty() && s.iter().all(u8::is_ascii_digit)
 }
 
-fn is_small(b: u8) -> bool
-    ensures { result ≡ small b }
+/// One to eight letters a to z.
+fn is_name(s: &[u8]) -> bool
+    ensures { result ≡ is_name s.now }
 {
-    b >= b'a' && b <= b'z'
+    (1..=MOST_LETTERS).contains(&s.len()) && s.iter().all(u8::is_ascii_lowercase)
 }
 
-fn all_digits(s: &[u8]) -> bool
-    ensures { result ≡ every digit s.now }
+/// The name in front of a colon.
+fn label_name(s: &[u8]) -> Option<&[u8]>
+    ensures { option_map (λ n. n.now) result ≡ cond (is_label s.now) (Some (take (length s.now - 1) s.now)) None }
 {
-    for b in s {
-        if !is_digit(*b) {
-            return false;
-        }
+    match s {
+        [name @ .., b':'] if is_name(name) => Some(name),
+        _ => None,
     }
-    true
 }
 
-fn all_small(s: &[u8]) -> bool
-    ensures { result ≡ every small s.now }
+/// Eight bytes: the letters, and 0 after them.
+fn padded(name: &[u8]) -> [u8; 8]
+    ensures { result ≡ name_of name.now }
 {
-    for b in s {
-        if !is_small(*b) {
-            return false;
-        }
-    }
-    true
+    let mut letters = [0; MOST_LETTERS];
+    let n = name.len().min(MOST_LETTERS);
+    letters[..n].copy_from_slice(&name[..n]);
+    letters
 }
 
 /// The value of at most eight digits.
@@ -72,40 +72,6 @@ fn value(digits: &[u8]) -> u32
         n = 10 * n + u32::from(*b - b'0');
     }
     n
-}
-
-/// Digits alone, one or more.
-fn is_digits(s: &[u8]) -> bool
-    ensures { result ≡ is_digits s.now }
-{
-    s.len() >= 1 && all_digits(s)
-}
-
-/// One to eight letters a to z.
-fn is_name(s: &[u8]) -> bool
-    ensures { result ≡ is_name s.now }
-{
-    s.len() >= 1 && s.len() <= MOST_LETTERS && all_small(s)
-}
-
-/// A name and a colon.
-fn is_label(s: &[u8]) -> bool
-    ensures { result ≡ is_label s.now }
-{
-    let n = s.len();
-    n >= 1 && s[n - 1] == b':' && is_name(&s[0..n - 1])
-}
-
-/// Eight bytes: the letters, and 0 after them.
-fn padded(name: &[u8]) -> [u8; 8]
-    requires { length name.now ≤ 8 }
-    ensures { result ≡ name_of name.now }
-{
-    let mut letters = [0; 8];
-    for (i, b) in name.iter().enumerate() {
-        letters[i] = *b;
-    }
-    letters
 }
 
 /// The magnitude of digits; those of over eight stand for a number that is outside every range.
@@ -124,41 +90,16 @@ fn magnitude(digits: &[u8]) -> u32
 pub fn unsigned_of(s: &[u8]) -> Option<u32>
     ensures { result ≡ unsigned_of s.now }
 {
-    if !is_digits(s) {
-        return None;
-    }
-    Some(magnitude(s))
+    is_digits(s).then(|| magnitude(s))
 }
 
 /// A number: digits, after a minus if wanted.
 pub fn number_of(s: &[u8]) -> Option<i64>
     ensures { result ≡ number_of s.now }
 {
-    if s.is_empty() {
-        return None;
-    }
-    if s[0] == b'-' {
-        negative(unsigned_of(&s[1..]))
-    } else {
-        positive(unsigned_of(s))
-    }
-}
-
-fn negative(n: Option<u32>) -> Option<i64>
-    ensures { result ≡ option_map (λ m. neg_ℤ (pos m)) n }
-{
-    match n {
-        Some(n) => Some(-i64::from(n)),
-        None => None,
-    }
-}
-
-fn positive(n: Option<u32>) -> Option<i64>
-    ensures { result ≡ option_map pos n }
-{
-    match n {
-        Some(n) => Some(i64::from(n)),
-        None => None,
+    match s {
+        [b'-', digits @ ..] => unsigned_of(digits).map(|n| -i64::from(n)),
+        _ => unsigned_of(s).map(i64::from),
     }
 }
 
@@ -167,12 +108,10 @@ pub fn classify<'a>(spot: Spot<'a>) -> Token<'a>
     ensures { Shown result spot.entry }
 {
     if is_digits(spot.text) && spot.text.len() <= MOST_DIGITS {
-        return Token::Place(spot);
-    }
-    if is_label(spot.text) {
-        return Token::Label(spot);
-    }
-    if number_of(spot.text).is_some() {
+        Token::Place(spot)
+    } else if label_name(spot.text).is_some() {
+        Token::Label(spot)
+    } else if number_of(spot.text).is_some() {
         Token::Number(spot)
     } else {
         Token::Letter(spot)
@@ -185,9 +124,7 @@ pub fn place_of(spot: Spot) -> Option<u32>
 {
     match classify(spot) {
         Token::Place(digits) => Some(value(digits.text)),
-        Token::Label(_) => None,
-        Token::Number(_) => None,
-        Token::Letter(_) => None,
+        _ => None,
     }
 }
 
@@ -195,25 +132,14 @@ pub fn place_of(spot: Spot) -> Option<u32>
 pub fn label_of(spot: Spot) -> Option<[u8; 8]>
     ensures { result ≡ as_label spot.entry.text.now }
 {
-    match classify(spot) {
-        Token::Label(label) => {
-            let n = label.text.len();
-            Some(padded(&label.text[0..n - 1]))
-        }
-        Token::Place(_) => None,
-        Token::Number(_) => None,
-        Token::Letter(_) => None,
-    }
+    label_name(spot.text).map(padded)
 }
 
 /// The name that a token is: a target without its colon.
 pub fn name_of(s: &[u8]) -> Option<[u8; 8]>
     ensures { result ≡ as_name s.now }
 {
-    if !is_name(s) {
-        return None;
-    }
-    Some(padded(s))
+    is_name(s).then_some(s).map(padded)
 }
 
 /// Whether a token opens a stretch.

@@ -1,49 +1,87 @@
 //! An instruction: its letter, and the operands that are written after it.
 
-ghost use Rattle.std.specs.Prelude.{◌≡◌, ◌<◌, ◌≤◌, true, [], ◌∷◌, length, drop, Some, slice_index};
-ghost use Rattle.sequence.specs.Lines.{number, operand_of, pair_of, value_of, target_from, aimed_at, formed, lettered, touching, coded};
-ghost use Rattle.token.specs.Spots.{left, token_of};
+ghost use Rattle.std.specs.Prelude.{◌≡◌, Some};
+ghost use Rattle.isa.specs.declared.refusal.Refusal.TheVariants as refusal;
+ghost use Rattle.isa.specs.Shapes.{operands};
+ghost use Rattle.sequence.specs.Lines.{text_fault, operand_of, one_of, pair_of, value_of, target_from, column_of, formed, coded};
+ghost use Rattle.token.specs.Spots.{left};
 ghost use Rattle.std.specs.Option.{option_map};
-ghost use Rattle.parser.specs.Parts.{head_of, shown_operand, shown_pair, FirstOf};
+ghost use Rattle.parser.specs.Parts.{head_of, shown_operand, shown_argument, shown_pair, listed};
 
-use isa::{Entry, Instruction, Operands, Order, Refusal, Shape, look_up, shape_of};
+use isa::{Mismatch, Operands, Order, Refusal, Shape, look_up, shape_of};
 use sequence::{Definition, Line, Source, Target, TextFault, WrittenPlace};
 use token::{Scanner, Spot, name_of, number_of, unsigned_of};
 
 /// What stands in front of an instruction.
-#[derive(Clone, Copy)]
+#[derive(Clone, Copy, Debug, PartialEq, Eq)]
 pub struct Front {
     pub line: usize,
     pub written: Option<WrittenPlace>,
     pub label: Option<Definition>,
 }
 
-pub(crate) fn fault(refusal: Refusal, line: usize, column: usize) -> TextFault
-    ensures { result ≡ record { refusal = refusal; line = line; column = column } }
+/// The instruction's own token, and the operands after it.
+pub fn instruction<'a>(
+    front: Front,
+    spot: Spot<'a>,
+    mut scan: Scanner<'a>,
+) -> Result<Line, TextFault>
+    ensures { result ≡ coded (head_of front) spot.entry.column spot.entry.text.now (left scan.entry) }
 {
-    TextFault {
-        refusal,
-        line,
-        column,
+    let Some((letter, touching)) = spot.text.split_first() else {
+        return Err(wrong_operands(front.line));
+    };
+    let letter = *letter as char;
+    let unknown = TextFault::new(Refusal::Letter, front.line, spot.column);
+    let shape = shape_of(letter).ok_or(unknown)?;
+    // What touches the letter is its first operand.
+    let first = if touching.is_empty() {
+        scan.next()
+    } else {
+        Some(Spot {
+            text: touching,
+            ..spot
+        })
+    };
+    let arguments = Arguments::read(shape, first, scan).ok_or(wrong_operands(front.line))?;
+    ranged(front, letter, spot.column, arguments)
+}
+
+/// The instruction, if its operands are in range.
+fn ranged(
+    front: Front,
+    letter: char,
+    column: usize,
+    arguments: Arguments,
+) -> Result<Line, TextFault>
+    ensures { result ≡ formed (head_of front) letter column (Some (shown_pair arguments)) }
+{
+    match look_up(letter, arguments.operands()) {
+        Ok(entry) => Ok(Line::Holds(Source {
+            line: front.line,
+            written: front.written,
+            label: front.label,
+            instruction: entry.instruction.map(|place| arguments.target_at(place)),
+            column: arguments.column_of(Order::First),
+        })),
+        Err(Mismatch::OutOfRange(_, order)) => Err(TextFault::new(
+            Refusal::Range,
+            front.line,
+            arguments.column_of(order),
+        )),
+        Err(Mismatch::UnknownLetter) => Err(TextFault::new(Refusal::Letter, front.line, column)),
     }
 }
 
-/// The instruction's own token, and the operands after it.
-pub fn instruction<'a>(front: Front, spot: Spot<'a>, scan: Scanner<'a>) -> Result<Line, TextFault>
-    ensures { result ≡ coded (head_of front) spot.entry.column spot.entry.text.now (left scan.entry) }
+/// Operands that are not those of their letter, in number or form.
+pub(crate) fn wrong_operands(line: usize) -> TextFault
+    ensures { result ≡ text_fault refusal.Operands line 0 }
 {
-    if spot.text.is_empty() {
-        return Err(fault(Refusal::Operands, front.line, 0));
-    }
-    let letter = spot.text[0];
-    let Some(shape) = shape_of(letter as char) else {
-        return Err(fault(Refusal::Letter, front.line, spot.column));
-    };
-    operands(front, spot, shape, scan)
+    TextFault::new(Refusal::Operands, line, 0)
 }
 
 /// An operand as it is written.
-#[derive(Clone, Copy)]
+#[derive(Clone, Copy, Debug, PartialEq, Eq)]
 pub(crate) enum Operand {
     Number(i64),
     Named([u8; 8]),
@@ -54,214 +92,109 @@ fn operand_of(is_target: bool, text: &[u8]) -> Option<Operand>
     ensures { option_map shown_operand result ≡ operand_of is_target text.now }
 {
     if is_target {
-        target_of(text)
+        name_of(text).map(Operand::Named).or_else(|| unsigned_of(text).map(|n| Operand::Number(
+            i64::from(n),
+        )))
     } else {
-        numeric(number_of(text))
-    }
-}
-
-fn numeric(n: Option<i64>) -> Option<Operand>
-    ensures { option_map shown_operand result ≡ option_map number n }
-{
-    match n {
-        Some(n) => Some(Operand::Number(n)),
-        None => None,
-    }
-}
-
-fn target_of(text: &[u8]) -> Option<Operand>
-    ensures { option_map shown_operand result ≡ operand_of true text.now }
-{
-    match name_of(text) {
-        Some(name) => Some(Operand::Named(name)),
-        None => match unsigned_of(text) {
-            Some(n) => Some(Operand::Number(i64::from(n))),
-            None => None,
-        },
+        number_of(text).map(Operand::Number)
     }
 }
 
 /// An operand and the column of its token.
-#[derive(Clone, Copy)]
+#[derive(Clone, Copy, Debug, PartialEq, Eq)]
 pub(crate) struct Argument {
     operand: Operand,
     column: usize,
 }
 
-/// The command letter and the column of its token.
-#[derive(Clone, Copy)]
-pub(crate) struct Letter {
-    code: u8,
-    column: usize,
-}
-
-const ABSENT: Argument = Argument {
-    operand: Operand::Number(0),
-    column: 0,
-};
-
-/// The operands that a letter takes, in number and form.
-fn operands<'a>(
-    front: Front,
-    spot: Spot<'a>,
-    shape: Shape,
-    mut scan: Scanner<'a>,
-) -> Result<Line, TextFault>
-    requires { 0 < length spot.text.now }
-    ensures { result ≡ lettered (head_of front) (slice_index spot.entry.text.now 0) spot.entry.column (touching spot.entry.column (drop 1 spot.entry.text.now) (left scan.entry)) (Some shape) }
-{
-    let letter = Letter {
-        code: spot.text[0],
-        column: spot.column,
-    };
-    let Some(first) = first_operand(spot, &mut scan) else {
-        return without(front, letter, shape);
-    };
-    let Some(second) = scan.next() else {
-        return with_one(front, letter, shape, first);
-    };
-    if scan.next().is_some() {
-        return Err(fault(Refusal::Operands, front.line, 0));
-    }
-    with_two(front, letter, shape, first, second)
-}
-
-/// The first operand: what touches the letter, or the next token.
-fn first_operand<'a>(spot: Spot<'a>, scan: &mut Scanner<'a>) -> Option<Spot<'a>>
-    ensures { FirstOf result (touching spot.entry.column (drop 1 spot.entry.text.now) (left scan.old)) (left scan.new) }
-{
-    if spot.text.len() <= 1 {
-        return scan.next();
-    }
-    Some(Spot {
-        line: spot.line,
-        column: spot.column,
-        text: &spot.text[1..],
-    })
-}
-
-fn without(front: Front, letter: Letter, shape: Shape) -> Result<Line, TextFault>
-    ensures { result ≡ formed (head_of front) letter.code letter.column (pair_of shape []) }
-{
-    if shape.operand_count() != 0 {
-        return Err(fault(Refusal::Operands, front.line, 0));
-    }
-    finish(front, letter, ABSENT, ABSENT)
-}
-
-fn with_one(front: Front, letter: Letter, shape: Shape, first: Spot) -> Result<Line, TextFault>
-    ensures { result ≡ formed (head_of front) letter.code letter.column (pair_of shape (token_of first.entry ∷ [])) }
-{
-    if shape.operand_count() != 1 {
-        return Err(fault(Refusal::Operands, front.line, 0));
-    }
-    match operand_of(shape.has_target(), first.text) {
-        Some(operand) => finish(
-            front,
-            letter,
-            Argument {
-                operand,
-                column: first.column,
-            },
-            ABSENT,
-        ),
-        None => Err(fault(Refusal::Operands, front.line, 0)),
+impl Argument {
+    fn read(is_target: bool, spot: Spot) -> Option<Argument>
+        ensures { option_map shown_argument result ≡ one_of spot.entry.column (operand_of is_target spot.entry.text.now) }
+    {
+        let operand = operand_of(is_target, spot.text)?;
+        Some(Argument {
+            operand,
+            column: spot.column,
+        })
     }
 }
 
-fn with_two(
-    front: Front,
-    letter: Letter,
-    shape: Shape,
-    first: Spot,
-    second: Spot,
-) -> Result<Line, TextFault>
-    ensures { result ≡ formed (head_of front) letter.code letter.column (pair_of shape (token_of first.entry ∷ token_of second.entry ∷ [])) }
-{
-    if shape.operand_count() != 2 {
-        return Err(fault(Refusal::Operands, front.line, 0));
-    }
-    let Some(one) = operand_of(shape.has_target(), first.text) else {
-        return Err(fault(Refusal::Operands, front.line, 0));
-    };
-    let Some(two) = operand_of(false, second.text) else {
-        return Err(fault(Refusal::Operands, front.line, 0));
-    };
-    let one = Argument {
-        operand: one,
-        column: first.column,
-    };
-    let two = Argument {
-        operand: two,
-        column: second.column,
-    };
-    finish(front, letter, one, two)
+/// The operands after a letter.
+#[derive(Clone, Copy, Debug, PartialEq, Eq)]
+pub(crate) struct Arguments {
+    first: Option<Argument>,
+    second: Option<Argument>,
 }
 
-/// The instruction, if its operands are in range.
-fn finish(
-    front: Front,
-    letter: Letter,
-    first: Argument,
-    second: Argument,
-) -> Result<Line, TextFault>
-    ensures { result ≡ formed (head_of front) letter.code letter.column (Some (shown_pair first second)) }
-{
-    let operands = Operands {
-        first: value_of(first.operand),
-        second: value_of(second.operand),
-    };
-    match look_up(letter.code as char, operands) {
-        Entry::Unknown => Err(fault(Refusal::Letter, front.line, letter.column)),
-        Entry::OutOfRange(_, Order::First) => Err(fault(Refusal::Range, front.line, first.column)),
-        Entry::OutOfRange(_, Order::Second) => Err(fault(
-            Refusal::Range,
-            front.line,
-            second.column,
-        )),
-        Entry::Fits(_, instruction) => Ok(Line::Holds(Source {
-            line: front.line,
-            written: front.written,
-            label: front.label,
-            instruction: aim(first.operand, instruction),
-            column: first.column,
-        })),
+impl Arguments {
+    /// The operands that a letter of this shape takes, in number and form: `first` is the first of them, and the others
+    /// are still to come.
+    fn read<'a>(shape: Shape, first: Option<Spot<'a>>, mut scan: Scanner<'a>) -> Option<Arguments>
+        ensures { option_map shown_pair result ≡ pair_of shape (listed first.entry (left scan.entry)) }
+    {
+        let count = shape.operand_count();
+        let Some(first) = first else {
+            return (count == 0).then_some(Arguments {
+                first: None,
+                second: None,
+            });
+        };
+        let one = Argument::read(shape.has_target(), first)?;
+        let Some(second) = scan.next() else {
+            return (count == 1).then_some(Arguments {
+                first: Some(one),
+                second: None,
+            });
+        };
+        let two = Argument::read(false, second)?;
+        (count == 2 && scan.next().is_none()).then_some(Arguments {
+            first: Some(one),
+            second: Some(two),
+        })
     }
-}
 
-/// A name counts as place 0 until it is looked up.
-fn value_of(operand: Operand) -> i64
-    ensures { result ≡ value_of (shown_operand operand) }
-{
-    match operand {
-        Operand::Number(n) => n,
-        Operand::Named(_) => 0,
+    /// A name counts as place 0 until it is looked up; so does an operand that is not there.
+    fn operands(self) -> Operands
+        ensures { result ≡ operands (value_of (shown_pair self).first) (value_of (shown_pair self).second) }
+    {
+        let value = |argument: Option<Argument>| match argument {
+            Some(
+                Argument {
+                    operand: Operand::Number(n),
+                    ..
+                },
+            ) => n,
+            _ => 0,
+        };
+        Operands {
+            first: value(self.first),
+            second: value(self.second),
+        }
     }
-}
 
-/// The instruction with its target as written.
-fn aim(operand: Operand, instruction: Instruction<u16>) -> Instruction<Target>
-    ensures { result ≡ aimed_at (shown_operand operand) instruction }
-{
-    match instruction {
-        Instruction::Go(p) => Instruction::Go(target_at(operand, p)),
-        Instruction::Jump { target, times } => Instruction::Jump {
-            target: target_at(operand, target),
-            times,
-        },
-        Instruction::JumpLow { target, port } => Instruction::JumpLow {
-            target: target_at(operand, target),
-            port,
-        },
-        Instruction::Act(action) => Instruction::Act(action),
+    /// The column of an operand, or 0 where it is not there.
+    fn column_of(self, order: Order) -> usize
+        ensures { result ≡ column_of order (shown_pair self) }
+    {
+        let argument = match order {
+            Order::First => self.first,
+            Order::Second => self.second,
+        };
+        argument.map_or(0, |argument| argument.column)
     }
-}
 
-fn target_at(operand: Operand, place: u16) -> Target
-    ensures { result ≡ target_from (shown_operand operand) place }
-{
-    match operand {
-        Operand::Number(_) => Target::Place(place),
-        Operand::Named(name) => Target::Label(name),
+    /// The target as written: the first operand, whose value is this place.
+    fn target_at(self, place: u16) -> Target
+        ensures { result ≡ target_from (shown_pair self).first place }
+    {
+        match self.first {
+            Some(
+                Argument {
+                    operand: Operand::Named(name),
+                    ..
+                },
+            ) => Target::Label(name),
+            _ => Target::Place(place),
+        }
     }
 }

@@ -2,4 +2,3 @@ pub mod Cuts
 pub mod Fronts
 pub mod Names
 pub mod Steps
-pub mod Values

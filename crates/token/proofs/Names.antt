@@ -1,8 +1,9 @@
 -- A name, letter by letter.
-use Rattle.std.proofs.Common.{◌≡◌, ℕ, zero, suc, ◌-◌, ◌<◌, ◌≤◌, Bool, true, false, eqb, leb, List, [], ◌∷◌, ◌++◌, length, get_or, take, drop, replicate, min, sym, refl, ap, ◌∙◌, arith}
+use Rattle.std.proofs.Common.{◌≡◌, ℕ, zero, suc, ◌-◌, ◌≤◌, Bool, true, false, eqb, leb, List, [], ◌∷◌, ◌++◌, length, get_or, take, drop, replicate, min, sym, refl, ap, ◌∙◌, arith}
 use Rattle.std.proofs.lemmas.List.{take_min, take-replicate, length-take}
 use Rattle.std.proofs.lemmas.Bool.{and_parts, and_left, and_right, leb-true}
 use Rattle.std.proofs.lemmas.Bool.Decides.{nat_tests}
+use Rattle.std.proofs.lemmas.List.Recursion.{and_at}
 use Rattle.std.specs.Prelude.{◌&&◌}
 use Rattle.std.specs.List.{list_all}
 use Rattle.sequence.specs.Texts as Texts
@@ -25,17 +26,11 @@ pub every_is : (p : ℕ → Bool) (bs : List ℕ) → Texts.every p bs ≡ list_
 every_is p [] = refl
 every_is p (b ∷ bs) = ap (λ t. p b && t) (every_is p bs)
 
--- a test of every byte, byte by byte
-every_at : (p : ℕ → Bool) (bs : List ℕ) (k : ℕ) → k < length bs → Texts.every p bs ≡ true → p (get_or bs k 0) ≡ true
-every_at p [] k h e = absurd (omega arith)
-every_at p (b ∷ bs) zero h e = (and_parts (p b) (Texts.every p bs) e).0
-every_at p (b ∷ bs) (suc k) h e = every_at p bs k (omega arith) (and_parts (p b) (Texts.every p bs) e).1
-
 -- digits are no label: they do not end in a colon
 pub digits_no_label : (bs : List ℕ) → is_digits bs ≡ true → is_label bs ≡ false
 digits_no_label bs h =
     let a = and_parts (leb 1 (length bs)) (Texts.every digit bs) h in
     let l : 1 ≤ length bs = leb-true 1 (length bs) a.0 in
-    let d : digit (get_or bs (length bs - 1) 0) ≡ true = every_at digit bs (length bs - 1) (omega arith) a.1 in
+    let d : digit (get_or bs (length bs - 1) 0) ≡ true = and_at (Texts.every digit) digit refl (λ _ _. refl) bs (length bs - 1) 0 (omega arith) a.1 in
     let c : eqb (get_or bs (length bs - 1) 0) 58 ≡ false = grind (arith, nat_tests) in
     and_right (leb 1 (length bs)) _ (and_left _ (is_name (take (length bs - 1) bs)) c)

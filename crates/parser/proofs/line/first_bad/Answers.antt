@@ -1,17 +1,15 @@
-use Rattle.std.proofs.Common.{◌≡◌, suc, ◌+◌, sym, ◌∙◌, arith, rules}
-use Rattle.std.proofs.lemmas.List.{at_drop_more, at_drop_all}
-use Rattle.sequence.specs.Lines.{first_bad}
+use Rattle.std.proofs.Common.{◌≡◌, suc, ap, ◌∙◌, rules}
+use borrow.Author.Tests.{tests}
+use Rattle.std.specs.Prelude.{not, position}
+use Rattle.std.specs.Option.{option_map}
+use Rattle.std.proofs.lemmas.Iterator.{YieldsList-from_slice}
+use Rattle.std.proofs.lemmas.Iterator.Search.{position_from_yields_List}
+use Rattle.sequence.specs.Lines.{allowed}
 use Rattle.parser.proofs.line.first_bad.Goals as goal
 
-pub returns-then-not-is_allowed : goal.returns-then-not-is_allowed
-returns-then-not-is_allowed c =
-    let e = at_drop_more (first_bad (c.loop-i.i + 1)) c.args.text.now c.loop-i.i 0 (search rules) in grind arith
-
-pub loop-i-preserved : goal.loop-i-preserved
-loop-i-preserved c =
-    let e = at_drop_more (first_bad (c.loop-i.i + 1)) c.args.text.now c.loop-i.i 0 (search rules) in
-    let s : suc (c.loop-i.i + 1) ≡ c.loop-i.i + 1 + 1 = omega arith in
-    grind arith
-
 pub returns : goal.returns
-returns c = sym (at_drop_all (first_bad (c.loop-i.i + 1)) c.args.text.now c.loop-i.i (search rules)) ∙ c.loop-i.invariant
+returns c =
+    let s = c.args.text.now in
+    let at : c.position.result ≡ position (λ b. not (allowed b)) s = position_from_yields_List (λ b. not (allowed b)) _ _ c.position.result c.position.ensures.ran (YieldsList-from_slice s cc) (λ x b q k. search (rules, tests)) in
+    let m : c.map.result ≡ option_map suc c.position.result = search rules in
+    m ∙ ap (option_map suc) at

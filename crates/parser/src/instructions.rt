@@ -92,9 +92,8 @@ fn operand_of(is_target: bool, text: &[u8]) -> Option<Operand>
     ensures { option_map shown_operand result ≡ operand_of is_target text.now }
 {
     if is_target {
-        name_of(text).map(Operand::Named).or_else(|| unsigned_of(text).map(|n| Operand::Number(
-            i64::from(n),
-        )))
+        let place = || unsigned_of(text).map(|n| Operand::Number(i64::from(n)));
+        name_of(text).map(Operand::Named).or_else(place)
     } else {
         number_of(text).map(Operand::Number)
     }
@@ -116,6 +115,16 @@ impl Argument {
             operand,
             column: spot.column,
         })
+    }
+
+    /// A name counts as place 0 until it is looked up.
+    fn value(self) -> i64
+        ensures { result ≡ value_of (shown_operand self.operand) }
+    {
+        match self.operand {
+            Operand::Number(n) => n,
+            Operand::Named(_) => 0,
+        }
     }
 }
 
@@ -153,22 +162,13 @@ impl Arguments {
         })
     }
 
-    /// A name counts as place 0 until it is looked up; so does an operand that is not there.
+    /// The operands as numbers, 0 for one that is not there.
     fn operands(self) -> Operands
         ensures { result ≡ operands (value_of (shown_pair self).first) (value_of (shown_pair self).second) }
     {
-        let value = |argument: Option<Argument>| match argument {
-            Some(
-                Argument {
-                    operand: Operand::Number(n),
-                    ..
-                },
-            ) => n,
-            _ => 0,
-        };
         Operands {
-            first: value(self.first),
-            second: value(self.second),
+            first: self.first.map_or(0, Argument::value),
+            second: self.second.map_or(0, Argument::value),
         }
     }
 
@@ -187,13 +187,8 @@ impl Arguments {
     fn target_at(self, place: u16) -> Target
         ensures { result ≡ target_from (shown_pair self).first place }
     {
-        match self.first {
-            Some(
-                Argument {
-                    operand: Operand::Named(name),
-                    ..
-                },
-            ) => Target::Label(name),
+        match self.first.map(|first| first.operand) {
+            Some(Operand::Named(name)) => Target::Label(name),
             _ => Target::Place(place),
         }
     }

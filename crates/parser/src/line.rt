@@ -21,7 +21,7 @@ pub fn parse(line: usize, text: &[u8]) -> Result<Line, TextFault>
     if let Some(column) = first_bad(text) {
         return Err(TextFault::new(Refusal::Character, line, column));
     }
-    take_apart(line, Scanner::new(line, text))
+    take_apart(Scanner::new(line, text))
 }
 
 /// The column of the first byte that is not allowed.
@@ -33,24 +33,24 @@ pub fn first_bad(text: &[u8]) -> Option<usize>
         .map(|i| i + 1)
 }
 
-fn take_apart(line: usize, mut scan: Scanner) -> Result<Line, TextFault>
-    ensures { result ≡ taken line (left scan.entry) }
+fn take_apart(mut scan: Scanner) -> Result<Line, TextFault>
+    ensures { result ≡ taken scan.entry.line (left scan.entry) }
 {
     let Some(first) = scan.next() else {
         return Ok(Line::Blank);
     };
     if is_at(first.text) {
-        return opening(line, scan);
+        return opening(first.line, scan);
     }
     let Some(place) = place_of(first) else {
-        return perhaps_label(line, None, first, scan);
+        return perhaps_label(None, first, scan);
     };
     let written = WrittenPlace {
         place,
         column: first.column,
     };
-    let second = scan.next().ok_or(wrong_operands(line))?;
-    perhaps_label(line, Some(written), second, scan)
+    let second = scan.next().ok_or(wrong_operands(first.line))?;
+    perhaps_label(Some(written), second, scan)
 }
 
 /// After `at`: one place and nothing more.
@@ -64,33 +64,26 @@ fn opening(line: usize, mut scan: Scanner) -> Result<Line, TextFault>
     Ok(Line::Opens { line, place })
 }
 
+/// A label, if there is one, and the instruction.
 fn perhaps_label<'a>(
-    line: usize,
     written: Option<WrittenPlace>,
     spot: Spot<'a>,
     mut scan: Scanner<'a>,
 ) -> Result<Line, TextFault>
-    ensures { result ≡ labelled line written (token_of spot.entry ∷ left scan.entry) }
+    ensures { result ≡ labelled spot.entry.line written (token_of spot.entry ∷ left scan.entry) }
 {
     let bare = Front {
-        line,
+        line: spot.line,
         written,
         label: None,
     };
     let Some(name) = label_of(spot) else {
         return instruction(bare, spot, scan);
     };
-    let label = Definition {
+    let label = Some(Definition {
         name,
         column: spot.column,
-    };
-    let next = scan.next().ok_or(wrong_operands(line))?;
-    instruction(
-        Front {
-            label: Some(label),
-            ..bare
-        },
-        next,
-        scan,
-    )
+    });
+    let next = scan.next().ok_or(wrong_operands(spot.line))?;
+    instruction(Front { label, ..bare }, next, scan)
 }

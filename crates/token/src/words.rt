@@ -25,6 +25,7 @@ const MOST_DIGITS: usize = 8;
 
 const MOST_LETTERS: usize = 8;
 
+// Stays: a number and no Option; a token of over eight digits is a number too, and every range refuses it.
 const TOO_LONG: u32 = 100_000_000;
 
 /// Digits alone, one or more.

@@ -1,7 +1,6 @@
 mod Areas
 mod Counting
-mod Cuts
-mod Holding
-mod Loops
 mod Outcomes
 mod Passing
+mod Searches
+mod Writes

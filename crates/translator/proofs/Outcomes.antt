@@ -1,8 +1,8 @@
 -- What the passes make of a text.
-use Rattle.std.proofs.Common.{◌≡◌, ℕ, ◌+◌, ◌≤◌, Bool, true, false, ◌&&◌, eqb, leb, List, ◌++◌, length, take, drop, Ok, Err, Result, sym, refl, ap, ◌∙◌, arith, length-take-le}
+use Rattle.std.proofs.Common.{◌≡◌, ℕ, ◌+◌, ◌≤◌, Bool, true, ◌&&◌, eqb, leb, List, ◌++◌, length, take, drop, Ok, Result, sym, ap, ◌∙◌, arith, length-take-le}
 use lib.Seq.{sets, sets-eq}
 use Rattle.std.proofs.lemmas.List.{take-append-drop}
-use Rattle.std.proofs.lemmas.Bool.{eq-eqb, eqb-true, le-leb, leb-true, and_from}
+use Rattle.std.proofs.lemmas.Bool.{eq-eqb, le-leb, and_from}
 use Rattle.isa.specs.declared.refusal.Refusal.TheVariants.{Size}
 use Rattle.isa.specs.Checks.{and_then, require}
 use Rattle.layout.proofs.Basics.{ok_then}
@@ -23,41 +23,17 @@ module _ (text : List ℕ) where
   abbrev passes : Result Translation TextFault
   passes = and_then (planned 1 (lines text) fresh) second
 
-  text_large : sized_text text ≡ false → translation text ≡ Err (text_fault Size 0 0)
-  text_large h = ap (λ b. and_then (require b (text_fault Size 0 0)) (λ _. passes)) h
-
   module _ (image table : ℕ) where
     abbrev lent : Bool → Result Translation TextFault
     lent b = and_then (require b (text_fault Size 0 0)) (λ _. translation text)
-
-    pub text_unsized : sized_text text ≡ false → translated text image table ≡ Err (text_fault Size 0 0)
-    text_unsized h = go (eqb image 2048 && leb 64 table)
-      where
-        go : (b : Bool) → lent b ≡ Err (text_fault Size 0 0)
-        go true = text_large h
-        go false = refl
-
-    pub lent_unsized : (image ≡ 2048 → 64 ≤ table → ⊥) → translated text image table ≡ Err (text_fault Size 0 0)
-    lent_unsized h = ap lent (refuses (eqb image 2048) (leb 64 table) refl refl)
-      where
-        refuses : (a b : Bool) → eqb image 2048 ≡ a → leb 64 table ≡ b → (a && b) ≡ false
-        refuses true true p q = absurd (h (eqb-true _ _ p) (leb-true _ _ q))
-        refuses true false p q = refl
-        refuses false b p q = refl
 
     module _ (whole : sized_text text ≡ true) (exact : image ≡ 2048) (room : 64 ≤ table) where
       sized : translated text image table ≡ passes
       sized = ap lent (and_from _ _ (eq-eqb image 2048 exact) (le-leb 64 table room)) ∙ ap (λ b. and_then (require b (text_fault Size 0 0)) (λ _. passes)) whole
 
-      pub first_refused : (f : TextFault) → planned 1 (lines text) fresh ≡ Err f → translated text image table ≡ Err f
-      first_refused f e = sized ∙ ap (λ r. and_then r second) e
-
       module _ (s : Plan) (e : planned 1 (lines text) fresh ≡ Ok s) where
         first_done : translated text image table ≡ second s
         first_done = sized ∙ ap (λ r. and_then r second) e
-
-        pub second_refused : (f : TextFault) → assembled s 1 (lines text) 0 blank ≡ Err f → translated text image table ≡ Err f
-        second_refused f k = first_done ∙ ap (λ r. and_then r (done s)) k
 
         pub both_done : (im : List ℕ) → assembled s 1 (lines text) 0 blank ≡ Ok im → translated text image table ≡ Ok (record { image = im; labels = s.labels; count = s.count })
         both_done im k = first_done ∙ ap (λ r. and_then r (done s)) k

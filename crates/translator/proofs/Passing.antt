@@ -1,17 +1,22 @@
--- One line more of the first pass.
-use Rattle.std.proofs.Common.{◌≡◌, ℕ, ◌+◌, ◌≤◌, true, List, ◌∷◌, drop, Some, None, Ok, Err, Option, Result, sym, refl, ap, ◌∙◌, arith}
+-- One line more of a pass.
+use Rattle.std.proofs.Common.{◌≡◌, ℕ, ◌+◌, ◌≤◌, true, List, ◌∷◌, drop, Some, None, Ok, Option, sym, refl, ap, ◌∙◌, arith}
 use Rattle.std.proofs.lemmas.List.{drop-drop}
 use Rattle.isa.specs.Checks.{and_then}
+use Rattle.isa.specs.Places.{user}
+use Rattle.layout.proofs.Basics.{ok_then, ok_ok, every_at}
 use Rattle.layout.proofs.LabelCounts as counts
-use Rattle.sequence.specs.declared.text.TextFault.{TextFault}
+use Rattle.layout.proofs.Passes.{step_holds, step_opens}
+use Rattle.layout.proofs.Placing.{user_low}
+use Rattle.layout.proofs.Ranges.{Sound, line_sound}
 use Rattle.sequence.specs.declared.text.Line.{Line}
 use Rattle.sequence.specs.declared.text.Line.TheVariants.{Blank, Opens, Holds}
 use Rattle.sequence.specs.declared.text.Definition.{Definition}
 use Rattle.sequence.specs.Texts.{tokens}
 use Rattle.sequence.specs.Lines.{parsed}
-use Rattle.sequence.specs.Placings.{Plan, step}
+use Rattle.sequence.specs.Placings.{Plan, width_of, step}
 use Rattle.sequence.specs.Translations.{label_tokens, planned, painted, after, assembled}
-use Rattle.translator.specs.Plans.{defined_in, defined_by}
+use Rattle.translator.specs.declared.plan.Plan as declared
+use Rattle.translator.specs.Plans.{defined_in, defined_by, Fits, Rests}
 
 same_defined : (x : Line) → defined_by x ≡ counts.defined_by x
 same_defined Blank = refl
@@ -25,38 +30,46 @@ same_defined (Holds x) = go x.label
 pub few_defined : (l : ℕ) (b : List ℕ) (x : Line) → Ok x ≡ parsed l b → defined_by x ≤ label_tokens (tokens 1 true b)
 few_defined l b x e = let a = same_defined x in let c = counts.label_counted l b x (sym e) in omega arith
 
-module _ (l : ℕ) (b : List ℕ) (bs rest : List (List ℕ)) (s : Plan) (e : rest ≡ b ∷ bs) where
-  pub line_refused : (f : TextFault) → Err f ≡ parsed l b → planned l rest s ≡ Err f
-  line_refused f h = ap (λ r. planned l r s) e ∙ ap (λ r. and_then r (λ x. and_then (step x s) (planned (l + 1) bs))) (sym h)
+-- one line more of the first pass
+module _ (l : ℕ) (b : List ℕ) (bs rest : List (List ℕ)) (s : Plan) (e : rest ≡ b ∷ bs) (x : Line) (h : Ok x ≡ parsed l b) where
+  parsed_on : planned l rest s ≡ and_then (step x s) (planned (l + 1) bs)
+  parsed_on = ap (λ r. planned l r s) e ∙ ap (λ r. and_then r (λ x. and_then (step x s) (planned (l + 1) bs))) (sym h)
 
-  module _ (x : Line) (h : Ok x ≡ parsed l b) where
-    after_parse : planned l rest s ≡ and_then (step x s) (planned (l + 1) bs)
-    after_parse = ap (λ r. planned l r s) e ∙ ap (λ r. and_then r (λ x. and_then (step x s) (planned (l + 1) bs))) (sym h)
+  pub step_done : (t : Plan) → step x s ≡ Ok t → planned l rest s ≡ planned (l + 1) bs t
+  step_done t k = parsed_on ∙ ap (λ r. and_then r (planned (l + 1) bs)) k
 
-    pub step_refused : (f : TextFault) → step x s ≡ Err f → planned l rest s ≡ Err f
-    step_refused f k = after_parse ∙ ap (λ r. and_then r (planned (l + 1) bs)) k
+-- a line that found its place fits there, and the next line stands at the place after it
+next_after : (x : Line) (s s' : Plan) → step x s ≡ Ok s' → s'.next ≡ after x s.next
+next_after Blank s s' e = ap (λ (p : Plan). p.next) (sym (ok_ok _ _ e))
+next_after (Opens l p) s s' e = ap (λ (p : Plan). p.next) (sym (step_opens l p s s' e))
+next_after (Holds x) s s' e = ap (λ (p : Plan). p.next) (sym (step_holds x s s' e).same)
 
-    pub step_done : (t : Plan) → step x s ≡ Ok t → planned l rest s ≡ planned (l + 1) bs t
-    step_done t k = after_parse ∙ ap (λ r. and_then r (planned (l + 1) bs)) k
+fits_at : (x : Line) (s s' : Plan) → Sound x → step x s ≡ Ok s' → Fits x s.next
+fits_at Blank s s' r e = tt
+fits_at (Opens l p) s s' r e = tt
+fits_at (Holds x) s s' r e =
+    let u = user_low (s.next + width_of x) (every_at user (width_of x + 1) s.next (width_of x) (step_holds x s s' e).users (omega arith)) in (r, omega arith)
+
+pub record Standing (l : ℕ) (bs : List (List ℕ)) (x : Line) (s t : Plan) : Type 0 where
+  pub plan : Plan
+  pub more : planned (l + 1) bs plan ≡ Ok t
+  pub next : plan.next ≡ after x s.next
+  pub fits : Fits x s.next
+
+pub standing : (l : ℕ) (b : List ℕ) (bs rest : List (List ℕ)) (s t : Plan) → rest ≡ b ∷ bs → (x : Line) → Ok x ≡ parsed l b → planned l rest s ≡ Ok t → Standing l bs x s t
+standing l b bs rest s t e x h k =
+    let a = ok_then (step x s) (planned (l + 1) bs) t (sym (parsed_on l b bs rest s e x h) ∙ k) in
+    record { plan = a.0; more = a.2; next = next_after x s a.0 a.1; fits = fits_at x s a.0 (line_sound l b x (sym h)) a.1 }
 
 -- lists that agree past p agree past q
-pub drop_on : {A : Type 0} (p d q : ℕ) (l m : List A) → q ≡ p + d → drop p l ≡ drop p m → drop q l ≡ drop q m
+drop_on : {A : Type 0} (p d q : ℕ) (l m : List A) → q ≡ p + d → drop p l ≡ drop p m → drop q l ≡ drop q m
 drop_on p d q l m e h = ap (λ k. drop k l) e ∙ sym (drop-drop d p l) ∙ ap (drop d) h ∙ drop-drop d p m ∙ ap (λ k. drop k m) (sym e)
 
+-- the table with n labels more, past them
+pub rests_more : (n : ℕ) (a b c : declared.Plan) → Rests a b → c.filled ≡ b.filled + n → Rests b c → Rests a c
+rests_more n a b c r f s = record { rest = s.rest ∙ drop_on b.filled n c.filled b.table.now a.table.now f r.rest; size = s.size ∙ r.size }
+
 -- one line more of the second pass
-module _ (t : Plan) (l : ℕ) (b : List ℕ) (bs rest : List (List ℕ)) (n : ℕ) (im : List ℕ) (e : rest ≡ b ∷ bs) where
-  abbrev then_painted : Line → Result (List ℕ) TextFault
-  then_painted x = and_then (painted t x n im) (assembled t (l + 1) bs (after x n))
-
-  pub unparsed : (f : TextFault) → Err f ≡ parsed l b → assembled t l rest n im ≡ Err f
-  unparsed f h = ap (λ r. assembled t l r n im) e ∙ ap (λ r. and_then r then_painted) (sym h)
-
-  module _ (x : Line) (h : Ok x ≡ parsed l b) where
-    parsed_on : assembled t l rest n im ≡ then_painted x
-    parsed_on = ap (λ r. assembled t l r n im) e ∙ ap (λ r. and_then r then_painted) (sym h)
-
-    pub unpainted : (f : TextFault) → painted t x n im ≡ Err f → assembled t l rest n im ≡ Err f
-    unpainted f k = parsed_on ∙ ap (λ r. and_then r (assembled t (l + 1) bs (after x n))) k
-
-    pub painted_on : (im' : List ℕ) → painted t x n im ≡ Ok im' → assembled t l rest n im ≡ assembled t (l + 1) bs (after x n) im'
-    painted_on im' k = parsed_on ∙ ap (λ r. and_then r (assembled t (l + 1) bs (after x n))) k
+pub painted_on : (t : Plan) (l : ℕ) (b : List ℕ) (bs rest : List (List ℕ)) (n : ℕ) (im : List ℕ) → rest ≡ b ∷ bs → (x : Line) → Ok x ≡ parsed l b → (im' : List ℕ) → painted t x n im ≡ Ok im' → assembled t l rest n im ≡ assembled t (l + 1) bs (after x n) im'
+painted_on t l b bs rest n im e x h im' k =
+    ap (λ r. assembled t l r n im) e ∙ ap (λ r. and_then r (λ x. and_then (painted t x n im) (assembled t (l + 1) bs (after x n)))) (sym h) ∙ ap (λ r. and_then r (assembled t (l + 1) bs (after x n))) k

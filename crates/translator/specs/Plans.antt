@@ -1,7 +1,8 @@
--- What has been placed, as the code holds it beside the caller's table.
-use Rattle.std.specs.Prelude.{◌≡◌, ℕ, ◌+◌, ◌≤◌, true, cond, List, [], ◌∷◌, ◌++◌, length, take, drop, Some, None, Ok, Err, Option, Result, slice_set}
+-- What has been placed, as the code holds it, with the caller's table.
+use Rattle.std.specs.Prelude.{◌≡◌, ℕ, ◌+◌, ◌<◌, ◌≤◌, Bool, true, false, cond, List, [], ◌∷◌, ◌++◌, length, take, drop, ◌^◌, Some, None, Ok, Err, Option, Result, OnOk}
 use Rattle.isa.specs.declared.refusal.Refusal.TheVariants.{Label as Unnamed}
 use Rattle.isa.specs.Codes.{in_range}
+use Rattle.isa.specs.Places.{image_size, user}
 use Rattle.sequence.specs.declared.text.TextFault.{TextFault}
 use Rattle.sequence.specs.declared.text.Label.{Label}
 use Rattle.sequence.specs.declared.text.Definition.{Definition}
@@ -10,12 +11,29 @@ use Rattle.sequence.specs.declared.text.Line.{Line}
 use Rattle.sequence.specs.declared.text.Line.TheVariants.{Blank, Opens, Holds}
 use Rattle.sequence.specs.Lines.{text_fault}
 use Rattle.sequence.specs.Placings as Placings
-use Rattle.sequence.specs.Placings.{is_none, place_in, unaimed}
+use Rattle.sequence.specs.Placings.{is_none, place_in, unaimed, width_of, in_area}
+use Rattle.translator.specs.declared.plan.Stretch.{Stretch}
 use Rattle.translator.specs.declared.plan.Plan.{Plan}
 
--- the labels are the filled part of the table
-abbrev pub plan_of : Plan → List Label → Placings.Plan
-plan_of p table = record { opened = p.opened; used = p.used; next = p.next; kinds = p.kinds; labels = take p.labels table; count = p.lines }
+-- the labels are the filled records of the table
+abbrev pub entries : Plan → List Label
+entries p = take p.filled p.table.now
+
+abbrev pub is_open : Option Stretch → Bool
+is_open None = false
+is_open (Some s) = true
+
+-- with no stretch open, none is used, and the next place is 0
+abbrev pub is_used : Option Stretch → Bool
+is_used None = false
+is_used (Some s) = s.used
+
+abbrev pub next_of : Option Stretch → ℕ
+next_of None = 0
+next_of (Some s) = s.next
+
+abbrev pub plan_of : Plan → Placings.Plan
+plan_of p = record { opened = is_open p.stretch; used = is_used p.stretch; next = next_of p.stretch; kinds = p.kinds; labels = entries p; count = p.lines }
 
 -- what a step of the code says: the plan after it, or the fault
 abbrev pub Steps : {A : Type 0} → Result A TextFault → Result Placings.Plan TextFault → Placings.Plan → Type 0
@@ -27,6 +45,11 @@ abbrev pub unnamed : Source → Option Definition → List Label → Result (Uni
 unnamed x None ls = Ok tt
 unnamed x (Some d) ls = cond (is_none (place_in ls d.name)) (Ok tt) (Err (text_fault Unnamed x.line d.column))
 
+-- where a line falls if an open stretch has room for it, or 8
+abbrev pub Falls : Result ℕ TextFault → Source → Placings.Plan → Type 0
+Falls (Ok p) x s = (in_area x s ≡ Ok tt) × (s.opened ≡ true) × (p ≡ s.next) × (user (p + width_of x) ≡ true)
+Falls (Err e) x s = in_area x s ≡ Err e
+
 -- how many labels a line defines
 abbrev pub defined_in : Option Definition → ℕ
 defined_in None = 0
@@ -37,32 +60,31 @@ defined_by Blank = 0
 defined_by (Opens l p) = 0
 defined_by (Holds x) = defined_in x.label
 
--- n labels more, and the table past the filled part is as it was
-abbrev pub Kept : ℕ → Plan → Plan → List Label → List Label → Type 0
-Kept n p q before after = (q.labels ≡ p.labels + n) × (q.lines ≤ p.lines + 1) × (drop q.labels after ≡ drop q.labels before)
+-- room for n labels more, and for a line in the count
+abbrev pub HasRoom : ℕ → Plan → Type 0
+HasRoom n p = (p.filled + n ≤ length p.table.now) × (p.lines + 1 < 2 ^ 64)
 
--- the table with the label of a line
-abbrev pub Defined : Option Definition → Source → ℕ → ℕ → ℕ → List Label → List Label → Type 0
-Defined None x p n m before after = (m ≡ n) × (after ≡ before)
-Defined (Some d) x p n m before after = (m ≡ n + 1) × (after ≡ slice_set before n (record { name = d.name; line = x.line; place = p }))
+-- the records past the filled ones are as they were
+pub record Rests (before after : Plan) : Type 0 where
+  pub rest : drop after.filled after.table.now ≡ drop after.filled before.table.now
+  pub size : length after.table.now ≡ length before.table.now
+
+-- n labels more, and at most a line more
+abbrev pub Kept : {A : Type 0} → Result A TextFault → ℕ → Plan → Plan → Type 0
+Kept r n p q = OnOk r ((q.filled ≡ p.filled + n) × Rests p q × (q.lines ≤ p.lines + 1))
 
 -- the labels with that of a line
-abbrev pub added : Source → Option Definition → Placings.Plan → List Label
-added x None s = s.labels
-added x (Some d) s = s.labels ++ (record { name = d.name; line = x.line; place = s.next } ∷ [])
+abbrev pub with_label : Option Definition → Source → ℕ → List Label → List Label
+with_label None x p ls = ls
+with_label (Some d) x p ls = ls ++ (record { name = d.name; line = x.line; place = p } ∷ [])
 
--- the first pass: the plan with the labels in the table, which past them is as it was
-abbrev pub Planned : Result Plan TextFault → Result Placings.Plan TextFault → List Label → List Label → Type 0
-Planned (Ok p) want before after = (want ≡ Ok (plan_of p after)) × (p.labels ≤ length after) × (drop p.labels after ≡ drop p.labels before) × (length after ≡ length before)
-Planned (Err e) want before after = want ≡ Err e
+-- the operands of a line are in range, whatever its target, and its bytes are in the image
+abbrev pub Fits : Line → ℕ → Type 0
+Fits Blank n = Unit {0}
+Fits (Opens l p) n = Unit {0}
+Fits (Holds x) n = (in_range (unaimed x.instruction) ≡ true) × (n + width_of x ≤ image_size)
 
--- the operands of a line are in range, whatever its target
-abbrev pub InRange : Line → Type 0
-InRange Blank = Unit {0}
-InRange (Opens l p) = Unit {0}
-InRange (Holds x) = in_range (unaimed x.instruction) ≡ true
-
--- one line of the second pass: the image after it, or the fault
-abbrev pub Paints : {A : Type 0} → Result A TextFault → Result (List ℕ) TextFault → List ℕ → Type 0
-Paints (Ok a) want after = want ≡ Ok after
-Paints (Err e) want after = want ≡ Err e
+-- one line of the second pass: the image and the place after it, or the fault
+abbrev pub Paints : Result ℕ TextFault → Result (List ℕ) TextFault → List ℕ → ℕ → Type 0
+Paints (Ok p) want image next = (want ≡ Ok image) × (p ≡ next)
+Paints (Err e) want image next = want ≡ Err e

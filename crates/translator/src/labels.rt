@@ -1,31 +1,42 @@
-//! The caller's table of labels, looked up in place.
+//! The caller's table of labels, filled in the order of the text and looked up in place.
 
-ghost use Rattle.std.specs.Prelude.{◌≡◌};
-ghost use Rattle.std.specs.Str.{bytes_eq};
+ghost use Rattle.std.specs.Prelude.{◌≡◌, ◌+◌, ◌<◌, ◌≤◌, length};
 ghost use Rattle.sequence.specs.Placings.{place_in};
 
-use sequence::Label;
+use crate::plan::Plan;
+use sequence::{Label, Source};
 
-/// The place of the label of this name.
-pub(crate) fn find(labels: &[Label], name: &[u8; 8]) -> Option<u16>
-    ensures { result ≡ place_in labels.now name.now }
-{
-    for label in labels {
-        if is_named(label, name) {
-            return Some(label.place);
+impl Plan<'_> {
+    ghost use Rattle.translator.specs.Plans.{entries, defined_in, with_label, Rests};
+
+    /// The place of the label of this name.
+    pub(crate) fn find(&self, name: [u8; 8]) -> Option<u16>
+        ensures { result ≡ place_in (entries self.now) name }
+    {
+        self.table[..self.filled]
+            .iter()
+            .find(|label| label.name == name)
+            .map(|label| label.place)
+    }
+
+    /// Puts the label of a line, if it has one, after the filled records.
+    pub(crate) fn define(&mut self, source: Source, place: usize)
+        requires room { self.old.filled + defined_in source.label ≤ length self.old.table.now }
+        requires place { place < 2048 }
+        ensures same_reference { self.new.table.ghost_name ≡ self.old.table.ghost_name }
+        ensures entries { entries self.new ≡ with_label source.label source place (entries self.old) }
+        ensures filled { self.new.filled ≡ self.old.filled + defined_in source.label }
+        ensures rests { Rests self.old self.new }
+        ensures same { (self.new.stretch ≡ self.old.stretch) × (self.new.kinds ≡ self.old.kinds) × (self.new.lines ≡ self.old.lines) }
+    {
+        if let Some(label) = source.label {
+            let name = label.name;
+            self.table[self.filled] = Label {
+                name,
+                line: source.line,
+                place: place as u16,
+            };
+            self.filled += 1;
         }
     }
-    None
-}
-
-fn is_named(label: &Label, name: &[u8; 8]) -> bool
-    ensures { result ≡ bytes_eq label.now.name name.now }
-{
-    same(&label.name, name)
-}
-
-fn same(a: &[u8], b: &[u8]) -> bool
-    ensures { result ≡ bytes_eq a.now b.now }
-{
-    a == b
 }

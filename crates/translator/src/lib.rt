@@ -7,14 +7,18 @@ ghost use Rattle.sequence.specs.Layouts.{LaysOut};
 ghost use Rattle.sequence.specs.RoundTrips.{ListedAgain, RoundTrips};
 ghost use Rattle.translator.specs.Answers.{translated, answered, image_after, TableAfter};
 
-use isa::Refusal;
+use isa::{IMAGE_SIZE, Refusal};
+use plan::Plan;
 use sequence::{Label, TextFault};
+use sizes::is_sized;
 
 mod labels;
 mod passes;
 mod plan;
 mod resolve;
 mod sizes;
+
+pub use sizes::{MOST_BYTES, MOST_LABELS, MOST_LINES};
 
 /// How many instruction lines and labels an accepted text has.
 #[derive(Clone, Copy)]
@@ -28,6 +32,7 @@ pub struct Translated {
 /// Refused with the line and the column at fault, and with the image as it was; with `Size`, line 0 and column 0 if the
 /// text is over its limits, the image has not 2,048 bytes or the table has under 64 records. Records past the filled
 /// ones stay as they were.
+#[tactic(auto, using(layout::proofs::Laying::lays_out, relisting::proofs::RoundTrips::listed_again))]
 pub fn translate(
     text: &[u8],
     image: &mut [u8],
@@ -40,18 +45,15 @@ pub fn translate(
     ensures listed { ListedAgain text.now }
     ensures round { OnOk result (RoundTrips image.new) }
 {
-    if !sizes::is_sized(text) || image.len() != plan::PLACES || labels.len() < sizes::MOST_LABELS {
-        return Err(TextFault {
-            refusal: Refusal::Size,
-            line: 0,
-            column: 0,
-        });
+    if !is_sized(text) || image.len() != IMAGE_SIZE || labels.len() < MOST_LABELS {
+        return Err(TextFault::new(Refusal::Size, 0, 0));
     }
-    let plan = passes::plan_lines(text, labels)?;
-    let bytes = passes::assemble(text, &plan, labels)?;
+    let mut plan = Plan::new(labels);
+    plan.place_lines(text)?;
+    let bytes = plan.assemble(text)?;
     image.copy_from_slice(&bytes);
     Ok(Translated {
         lines: plan.lines,
-        labels: plan.labels,
+        labels: plan.filled,
     })
 }

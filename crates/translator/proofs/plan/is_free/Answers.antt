@@ -1,18 +1,14 @@
-use Rattle.std.proofs.Common.{get_or, arith}
+use Rattle.std.proofs.Common.{◌≡◌, ◌+◌, ◌-◌, take, drop, ap, ◌∙◌, arith, rules, tests}
+use Rattle.std.specs.List.{list_all}
+use Rattle.std.proofs.lemmas.Iterator.{YieldsList-from_slice}
+use Rattle.std.proofs.lemmas.Iterator.Search.{all_from_yields_List}
 use Rattle.sequence.specs.declared.text.Kind.TheVariants.{Free}
 use Rattle.sequence.specs.Placings.{is_free}
-use Rattle.std.proofs.lemmas.Bool.Decides.{nat_tests}
-use Rattle.translator.proofs.Loops.{every_start, every_more, every_all}
+use Rattle.translator.proofs.Searches.{every_all}
 use Rattle.translator.proofs.plan.is_free.Goals as goal
 
-pub loop-i-init : goal.loop-i-init
-loop-i-init c = every_start (λ q. is_free (get_or c.args.kinds.now q Free)) c.args.p c.args.n
-
-pub returns-then-not-kind_is_free : goal.returns-then-not-kind_is_free
-returns-then-not-kind_is_free c = let e = every_more (λ q. is_free (get_or c.args.kinds.now q Free)) c.args.p c.args.n c.loop-i.i (omega arith) in grind (arith, nat_tests)
-
-pub loop-i-preserved : goal.loop-i-preserved
-loop-i-preserved c = let e = every_more (λ q. is_free (get_or c.args.kinds.now q Free)) c.args.p c.args.n c.loop-i.i (omega arith) in grind (arith, nat_tests)
-
 pub returns : goal.returns
-returns c = let e = every_all (λ q. is_free (get_or c.args.kinds.now q Free)) c.args.p c.args.n c.loop-i.i (omega arith) in grind arith
+returns c =
+    let m = c.args.kinds.now in let p = c.args.p in let n = c.args.n in
+    all_from_yields_List is_free _ _ c.all.result c.all.ensures.ran (YieldsList-from_slice (take (p + n - p) (drop p m)) cc) (λ x b q k. search (rules, tests))
+    ∙ ap (λ k. list_all is_free (take k (drop p m))) (let e : p + n - p ≡ n = omega arith in e) ∙ every_all is_free Free m n p (omega arith)

@@ -1,13 +1,11 @@
-use Rattle.std.proofs.Common.{◌≡◌, ◌≤◌, true, length, arith, rules}
-use Rattle.sequence.specs.Texts.{tokens}
-use Rattle.sequence.specs.Translations.{label_tokens}
-use Rattle.translator.proofs.Counting.{few_labels}
+use Rattle.std.proofs.Common.{true, ap, ◌∙◌, rules}
+use Rattle.std.proofs.lemmas.Iterator.Consumers.{YieldsList-from_first, YieldsList-from_filter, count_from_yields_List}
+use Rattle.sequence.specs.Texts.{Token, tokens, is_label}
+use Rattle.token.specs.Spots.{left, token_of}
+use Rattle.translator.proofs.Counting.{labels_filtered}
 use Rattle.translator.proofs.sizes.count_labels.Goals as goal
-
-pub overflow_add-labels : goal.overflow_add-labels
-overflow_add-labels c = let l : length c.args.line.now ≤ 18446744073709551614 = search rules in omega (arith, few_labels c.args.line.now)
 
 pub returns : goal.returns
 returns c =
-    let e : c.loop-spot.labels ≡ label_tokens (tokens 1 true c.args.line.now) = search rules in
-    record { value = e; few = omega (arith, e, few_labels c.args.line.now) }
+    let ts = tokens 1 true c.args.line.now in
+    count_from_yields_List c.filter.result c.count.result c.count.ensures.ran (YieldsList-from_filter _ (λ (t : Token). is_label t.bytes) (YieldsList-from_first token_of left ts (ap left c.filter.ensures.source ∙ c.new.ensures.tokens)) c.filter.ensures.closure (λ x b q k. search rules)) ∙ labels_filtered ts

@@ -1,5 +1,5 @@
 -- What has been placed, as the code holds it, with the caller's table.
-use Rattle.std.specs.Prelude.{◌≡◌, ℕ, ◌+◌, ◌<◌, ◌≤◌, Bool, true, false, cond, List, [], ◌∷◌, ◌++◌, length, take, drop, ◌^◌, Some, None, Ok, Err, Option, Result, OnOk}
+use Rattle.std.specs.Prelude.{◌≡◌, ℕ, ◌+◌, ◌<◌, ◌≤◌, Bool, true, false, cond, List, [], ◌∷◌, ◌++◌, length, take, drop, ◌^◌, Some, None, Ok, Err, is_some, Option, Result, OnOk}
 use Rattle.isa.specs.declared.refusal.Refusal.TheVariants.{Label as Unnamed}
 use Rattle.isa.specs.Codes.{in_range}
 use Rattle.isa.specs.Places.{image_size, user}
@@ -19,10 +19,6 @@ use Rattle.translator.specs.declared.plan.Plan.{Plan}
 abbrev pub entries : Plan → List Label
 entries p = take p.filled p.table.now
 
-abbrev pub is_open : Option Stretch → Bool
-is_open None = false
-is_open (Some s) = true
-
 -- with no stretch open, none is used, and the next place is 0
 abbrev pub is_used : Option Stretch → Bool
 is_used None = false
@@ -33,7 +29,7 @@ next_of None = 0
 next_of (Some s) = s.next
 
 abbrev pub plan_of : Plan → Placings.Plan
-plan_of p = record { opened = is_open p.stretch; used = is_used p.stretch; next = next_of p.stretch; kinds = p.kinds; labels = entries p; count = p.lines }
+plan_of p = record { opened = is_some p.stretch; used = is_used p.stretch; next = next_of p.stretch; kinds = p.kinds; labels = entries p; count = p.lines }
 
 -- what a step of the code says: the plan after it, or the fault
 abbrev pub Steps : {A : Type 0} → Result A TextFault → Result Placings.Plan TextFault → Placings.Plan → Type 0

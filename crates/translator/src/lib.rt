@@ -21,7 +21,7 @@ mod sizes;
 pub use sizes::{MOST_BYTES, MOST_LABELS, MOST_LINES};
 
 /// How many instruction lines and labels an accepted text has.
-#[derive(Clone, Copy)]
+#[derive(Clone, Copy, Debug, PartialEq, Eq)]
 pub struct Translated {
     pub lines: usize,
     pub labels: usize,

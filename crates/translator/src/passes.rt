@@ -17,7 +17,6 @@ const FIRST_LINE: usize = 1;
 impl Plan<'_> {
     /// The first pass: each line is taken apart and finds its place.
     pub(crate) fn place_lines(&mut self, text: &[u8]) -> Result<(), TextFault>
-        requires size { length text.now ≤ 16384 }
         requires room { self.old.filled + labels_in (lines text.now) ≤ length self.old.table.now }
         requires none { self.old.lines ≡ 0 }
         ensures same_reference { self.new.table.ghost_name ≡ self.old.table.ghost_name }
@@ -32,8 +31,7 @@ impl Plan<'_> {
 
     /// The second pass: targets become places, and the bytes are written.
     pub(crate) fn assemble(&self, text: &[u8]) -> Result<[u8; IMAGE_SIZE], TextFault>
-        requires size { length text.now ≤ 16384 }
-        requires planned { planned 1 (lines text.now) fresh ≡ Ok (plan_of self.now) }
+        requires { planned 1 (lines text.now) fresh ≡ Ok (plan_of self.now) }
         ensures { result ≡ assembled (plan_of self.now) 1 (lines text.now) 0 blank }
     {
         let mut image = [MARK; IMAGE_SIZE];

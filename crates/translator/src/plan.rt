@@ -26,6 +26,7 @@ pub(crate) struct Stretch {
 pub(crate) struct Plan<'a> {
     pub stretch: Option<Stretch>,
     pub kinds: [Kind; IMAGE_SIZE],
+    // Stays: a slice and how much of it is filled; the caller lends the table, and it is filled in place.
     pub table: &'a mut [Label],
     pub filled: usize,
     pub lines: usize,

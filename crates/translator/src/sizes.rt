@@ -1,8 +1,8 @@
 //! How large a text is.
 
 ghost use Rattle.std.specs.Prelude.{◌≡◌, true};
-ghost use Rattle.sequence.specs.Texts.{tokens};
-ghost use Rattle.sequence.specs.Translations.{sized_text, label_tokens};
+ghost use Rattle.sequence.specs.Texts.{lines, tokens};
+ghost use Rattle.sequence.specs.Translations.{sized_text, labels_in, label_tokens};
 
 use token::{Lines, Scanner, label_of};
 
@@ -21,14 +21,17 @@ pub(crate) fn is_sized(text: &[u8]) -> bool
 {
     text.len() <= MOST_BYTES
         && Lines::new(text).count() <= MOST_LINES
-        && Lines::new(text)
-            .map(|line| count_labels(line))
-            .sum::<usize>()
-            <= MOST_LABELS
+        && count_labels(text) <= MOST_LABELS
 }
 
-/// How many tokens of a line have the shape of a label.
-fn count_labels(line: &[u8]) -> usize
+/// How many tokens of a text have the shape of a label.
+fn count_labels(text: &[u8]) -> usize
+    ensures { result ≡ labels_in (lines text.now) }
+{
+    Lines::new(text).map(count_in_line).sum()
+}
+
+fn count_in_line(line: &[u8]) -> usize
     ensures { result ≡ label_tokens (tokens 1 true line.now) }
 {
     Scanner::new(1, line)

@@ -21,10 +21,7 @@ loop-number-preserved c =
     let n : c.in-Some.number ≡ (zip_first c.loop-number.number-iterator).start = search rules in
     let m : (zip_first c.next.new.self).start ≡ c.in-Some.number + 1 = search rules in
     let a = standing c.in-Some.number c.in-Some.line.now more rest u.0 p e x c.in_ok-parse.ensures (ap (λ l. planned l rest u.0) n ∙ u.1) in record {
-      can = (tt, tt);
-      finite = tt;
       number = omega (arith, ap length e);
       under_way = (a.plan, ap (λ l. planned l more a.plan) m ∙ a.more, a.next ∙ ap (after x) u.2 ∙ sym k.1);
       assembled = ap (λ l. assembled p l more c.in_ok-place.place c.paint.new.image) m ∙ ap (λ q. assembled p (c.in-Some.number + 1) more q c.paint.new.image) k.1 ∙ sym (painted_on p c.in-Some.number c.in-Some.line.now more rest c.loop-number.place c.loop-number.image e x c.in_ok-parse.ensures c.paint.new.image k.0) ∙ ap (λ l. assembled p l rest c.loop-number.place c.loop-number.image) n ∙ i.assembled;
-      few = i.few;
     }

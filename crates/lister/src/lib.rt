@@ -6,14 +6,12 @@ ghost use Rattle.std.specs.Prelude.{◌≡◌, ◌≤◌, length};
 ghost use Rattle.sequence.specs.Listings.{listing, listed, answered, written, Short};
 ghost use Rattle.sequence.specs.RoundTrips.{Relists, RefusesRightly};
 
-use isa::Refusal;
+use isa::{IMAGE_SIZE, Refusal};
 use sequence::ImageFault;
 
 mod print;
 mod targets;
 mod walk;
-
-const IMAGE_SIZE: usize = 2_048;
 
 /// The output that every listing fits into.
 pub const LISTING_ROOM: usize = 16_384;
@@ -29,10 +27,7 @@ pub fn list(image: &[u8], out: &mut [u8]) -> Result<usize, ImageFault>
     ensures relisted { Relists image.now }
     ensures exact { RefusesRightly image.now }
 {
-    let fault = ImageFault {
-        refusal: Refusal::Size,
-        place: 0,
-    };
+    let fault = ImageFault::new(Refusal::Size, 0);
     let image = image.as_array().ok_or(fault)?;
     if out.len() < LISTING_ROOM {
         return Err(fault);

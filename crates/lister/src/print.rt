@@ -8,9 +8,8 @@ ghost use Rattle.sequence.specs.Images.{walk};
 ghost use Rattle.sequence.specs.Listings.{count, printed};
 ghost use Rattle.lister.specs.Walks.{found_in};
 
-use crate::IMAGE_SIZE;
 use crate::walk::Walk;
-use isa::{Instruction, Operands, shape_of};
+use isa::{IMAGE_SIZE, Instruction, Operands, shape_of};
 use itoa::{Buffer, Integer};
 use sequence::{Found, ImageFault};
 

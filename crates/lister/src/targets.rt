@@ -5,9 +5,8 @@ ghost use Rattle.sequence.specs.Images.{walk};
 ghost use Rattle.lister.specs.Targets.{firsts, checked_one, checked};
 ghost use Rattle.lister.specs.Walks.{Sound};
 
-use crate::IMAGE_SIZE;
 use crate::walk::Walk;
-use isa::Refusal;
+use isa::{IMAGE_SIZE, Refusal};
 use sequence::{Found, ImageFault};
 
 /// For each place, whether an instruction begins there.
@@ -38,10 +37,7 @@ fn check_found(found: Found, firsts: &[bool; IMAGE_SIZE]) -> Result<(), ImageFau
 {
     match found.instruction.target() {
         Some(target) if !firsts[usize::from(target)] => {
-            Err(ImageFault {
-                refusal: Refusal::Target,
-                place: found.place,
-            })
+            Err(ImageFault::new(Refusal::Target, found.place))
         }
         _ => Ok(()),
     }

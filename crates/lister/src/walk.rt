@@ -4,11 +4,8 @@ ghost use Rattle.std.specs.Prelude.{◌≡◌, ◌≤◌, length};
 ghost use Rattle.isa.specs.Codes.{padded, decoded};
 ghost use Rattle.isa.specs.Laws.{Decodes};
 
-use crate::IMAGE_SIZE;
-use isa::{Instruction, Refusal, decode, is_user_place, shape_of};
+use isa::{IMAGE_SIZE, Instruction, MARK, Refusal, decode, is_user_place, shape_of};
 use sequence::{Found, ImageFault};
-
-const MARK: u8 = 255;
 
 /// The instructions of an image in their order; a fault is the last item.
 #[derive(Drop)]
@@ -113,12 +110,12 @@ impl Iterator for Walk<'_> {
         match self.step() {
             Ok(found) => found.map(Ok),
             Err(refusal) => {
-                let place = self.place();
+                let fault = ImageFault::new(refusal, self.place());
                 *self = Walk {
                     rest: &[],
                     inside: false,
                 };
-                Some(Err(ImageFault { refusal, place }))
+                Some(Err(fault))
             }
         }
     }

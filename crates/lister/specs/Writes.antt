@@ -5,6 +5,7 @@ use Rattle.sequence.specs.Listings.{space}
 use Rattle.sequence.specs.Numbers.{signed}
 use Rattle.lister.specs.declared.print.Listing.{Listing}
 
+-- the text fits into the buffer, after what there is
 abbrev pub HasRoom : List ℕ → Listing → Type 0
 HasRoom text l = l.len + length text ≤ length l.out.now
 

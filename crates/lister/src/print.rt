@@ -14,6 +14,7 @@ use itoa::{Buffer, Integer};
 use sequence::{Found, ImageFault};
 
 /// A text in front of the buffer that it is written into.
+// Stays: the buffer is lent by the caller, so the text's length stands beside it.
 #[derive(Drop)]
 struct Listing<'a> {
     out: &'a mut [u8],
@@ -23,7 +24,7 @@ struct Listing<'a> {
 impl<'a> Listing<'a> {
     ghost use Rattle.std.specs.Prelude.{◌≡◌, ◌<◌, true, unsigned_abs, All};
     ghost use Rattle.isa.specs.Codes.{in_range};
-    ghost use Rattle.sequence.specs.Listings.{instruction_text, at_line, instruction_line, found_text};
+    ghost use Rattle.sequence.specs.Listings.{instruction_text, at_line, found_text};
     ghost use Rattle.sequence.specs.Numbers.{signed};
     ghost use Rattle.lister.specs.Writes.{HasRoom, Appends, spaced};
 
@@ -78,19 +79,7 @@ impl<'a> Listing<'a> {
         self.push(b"\n");
     }
 
-    /// Writes the line of an instruction.
-    fn push_line(&mut self, place: u16, instruction: Instruction<u16>)
-        requires range { in_range instruction ≡ true }
-        requires room { HasRoom (instruction_line place instruction) self.old }
-        ensures { Appends (instruction_line place instruction) self.old self.new }
-    {
-        self.push_number(place);
-        self.push(b" ");
-        self.push_instruction(instruction);
-        self.push(b"\n");
-    }
-
-    /// Writes what the listing says of one instruction; the first of a stretch has the line that opens it before it.
+    /// Writes the line of an instruction; the first of a stretch has the line that opens it before its own.
     fn push_found(&mut self, found: Found)
         requires range { in_range found.instruction ≡ true }
         requires room { HasRoom (found_text found) self.old }
@@ -99,7 +88,10 @@ impl<'a> Listing<'a> {
         if found.opens {
             self.push_at_line(found.place);
         }
-        self.push_line(found.place, found.instruction);
+        self.push_number(found.place);
+        self.push(b" ");
+        self.push_instruction(found.instruction);
+        self.push(b"\n");
     }
 }
 

@@ -1,9 +1,9 @@
 -- Texts written one after the other.
-use Rattle.std.proofs.Common.{◌≡◌, ℕ, zero, suc, ◌+◌, ◌/◌, ◌%◌, ◌<◌, ◌≤◌, true, cond, ltb, List, [], ◌∷◌, ◌++◌, length, get_or, take, drop, set, ℤ, pos, negsuc, nat_abs, is_ok, Ok, Err, Result, sym, refl, ap, ◌∙◌, arith, append_assoc, length-set, to_z, of_z, w64, rules}
-use lib.Seq.{sets}
+use Rattle.std.proofs.Common.{◌≡◌, ℕ, zero, suc, ◌+◌, ◌%◌, ◌<◌, ◌≤◌, true, cond, ltb, List, [], ◌∷◌, ◌++◌, length, get_or, take, drop, set, ℤ, pos, negsuc, nat_abs, is_ok, Ok, Err, Result, sym, refl, ap, ◌∙◌, arith, append_assoc, to_z, of_z, w64, rules}
+use lib.Seq.{sets, length-sets}
 use borrow.Rule.Slice.PartMut.{put_mid}
-use Rattle.std.proofs.lemmas.Bool.{lt-ltb, le-ltb}
-use Rattle.std.proofs.lemmas.Fmt.{AppendsLastDigit, decimal_from_appends, length-decimal-le}
+use Rattle.std.proofs.lemmas.Bool.{le-ltb}
+use Rattle.std.proofs.lemmas.Fmt.{decimal_by_steps}
 use Rattle.std.proofs.lemmas.List.{length-append, drop-drop, take_more, take_all, append-nil}
 use Rattle.std.proofs.lemmas.List.Folds.{length-flat_map-take}
 use Rattle.std.proofs.lemmas.Grind.{flat_map-append}
@@ -18,7 +18,8 @@ use Rattle.sequence.specs.declared.image.ImageFault.{ImageFault}
 use Rattle.sequence.specs.declared.image.Found.{Found}
 use Rattle.sequence.specs.Images.{with_found}
 use Rattle.sequence.specs.Listings.{space, operand_text, found_text, printed}
-use Rattle.sequence.specs.Numbers.{spell, decimal, signed}
+use Rattle.sequence.specs.Numbers.{decimal, signed}
+use Rattle.sequence.proofs.Decimals.{decimal_one, decimal_more}
 use Rattle.lister.specs.declared.print.Listing.{Listing}
 use Rattle.lister.specs.Walks.{found_in}
 use Rattle.lister.specs.Writes.{HasRoom, Appends, spaced}
@@ -26,10 +27,6 @@ use Rattle.lister.specs.Writes.{HasRoom, Appends, spaced}
 sets_append : (xs ys l : List ℕ) (i : ℕ) → sets l i (xs ++ ys) ≡ sets (sets l i xs) (i + length xs) ys
 sets_append [] ys l i = ap (λ k. sets l k ys) (let x : i ≡ i + 0 = omega arith in x)
 sets_append (x ∷ xs) ys l i = sets_append xs ys (set l i x) (suc i) ∙ ap (λ k. sets (sets (set l i x) (suc i) xs) k ys) (let y : suc i + length xs ≡ i + suc (length xs) = omega arith in y)
-
-pub length_sets : (xs l : List ℕ) (i : ℕ) → length (sets l i xs) ≡ length l
-length_sets [] l i = refl
-length_sets (x ∷ xs) l i = length_sets xs (set l i x) (suc i) ∙ length-set l i x
 
 -- a text copied into its place
 pub put_is : (xs l : List ℕ) (i k : ℕ) → k ≡ length xs → i + length xs ≤ length l → put_mid i k l xs ≡ sets l i xs
@@ -42,7 +39,7 @@ pub room_first : (xs ys : List ℕ) (a : Listing) → HasRoom (xs ++ ys) a → H
 room_first xs ys a h = omega (arith, length-append xs ys)
 
 pub room_rest : {xs : List ℕ} {a b : Listing} (ys : List ℕ) → Appends xs a b → HasRoom (xs ++ ys) a → HasRoom ys b
-room_rest {xs} {a} {b} ys v h = let o = ap length v.output in let e = v.len in omega (arith, length-append xs ys, length_sets xs a.out.now a.len)
+room_rest {xs} {a} {b} ys v h = let o = ap length v.output in let e = v.len in omega (arith, length-append xs ys, length-sets a.out.now a.len xs)
 
 pub appends_more : {xs ys : List ℕ} {a b c : Listing} → Appends xs a b → Appends ys b c → Appends (xs ++ ys) a c
 appends_more {xs} {ys} {a} {b} {c} v w = record {
@@ -73,18 +70,15 @@ operands_are (suc (suc n)) x y =
 pub room_next : {a b : Listing} (zs : List ℤ) (k : ℕ) → k < length zs → HasRoom (spaced zs) a → Appends (spaced (take k zs)) a b → HasRoom (space ∷ signed (get_or zs k (pos 0))) b
 room_next {a} {b} zs k h r v =
     let o = ap length v.output in let e = v.len in
-    omega (arith, length-flat_map-take (λ z. space ∷ signed z) zs k (pos 0) h, length_sets (spaced (take k zs)) a.out.now a.len)
+    omega (arith, length-flat_map-take (λ z. space ∷ signed z) zs k (pos 0) h, length-sets a.out.now a.len (spaced (take k zs)))
 
--- a number of at most eight digits as the library writes it
-spells : AppendsLastDigit spell
-spells = record {
-  one = λ k n h. ap (λ t. cond t ((48 + n) ∷ []) (spell k (n / 10) ++ ((48 + n % 10) ∷ []))) (lt-ltb n 10 h);
-  more = λ k n h. ap (λ t. cond t ((48 + n) ∷ []) (spell k (n / 10) ++ ((48 + n % 10) ∷ []))) (le-ltb n 10 h);
-}
-
+-- a number of at most eight digits, as the library writes it
 pub decimal_is : (n : ℕ) → n < 100000000 → std_decimal n ≡ decimal n
-unfolding decimal
-decimal_is n h = sym (decimal_from_appends spell spells 8 n (omega arith) (length-decimal-le 8 n (omega arith) h (omega arith)))
+decimal_is n h =
+    decimal_by_steps (λ n ds. n < 100000000 → ds ≡ decimal n)
+    (λ n h l. sym (decimal_one n h))
+    (λ n ds l e h. ap (λ s. s ++ ((48 + n % 10) ∷ [])) (e (omega arith)) ∙ sym (decimal_more n l h))
+    n (omega arith) h
 
 pub signed_is : (z : ℤ) → nat_abs z < 100000000 → signed_decimal z ≡ signed z
 signed_is (pos n) h = decimal_is n h

@@ -1,9 +1,9 @@
 use Rattle.std.proofs.Common.{false, length, Some, Ok, sym, ap, ◌∙◌, arith, rules}
-use lib.Seq.{sets}
+use lib.Seq.{sets, length-sets}
 use Rattle.sequence.specs.Images.{walk}
 use Rattle.sequence.specs.Listings.{printed}
 use Rattle.lister.specs.Walks.{left, Gives, found_in}
-use Rattle.lister.proofs.Writing.{printed_more, sets_found, length_found, length_sets}
+use Rattle.lister.proofs.Writing.{printed_more, sets_found, length_found}
 use Rattle.lister.proofs.print.print.Goals as goal
 use Rattle.lister.proofs.print.print.Goals.{In_ok-found}
 
@@ -21,8 +21,8 @@ push_found-requires-clause-room c =
       length_found f (found_in after),
       i.len,
       ap length i.output,
-      length_sets (printed (found_in (left c.loop-found.found-iterator))) l.out.now l.len,
-      length_sets (printed (found_in (walk 0 false 0 c.args.image.now))) c.args.out.now 0,
+      length-sets l.out.now l.len (printed (found_in (left c.loop-found.found-iterator))),
+      length-sets c.args.out.now 0 (printed (found_in (walk 0 false 0 c.args.image.now))),
       c.requires.room,
     )
 

@@ -1,13 +1,11 @@
 -- What is yet to come of a walk, step by step.
-use Rattle.std.proofs.Common.{◌≡◌, ℕ, zero, suc, ◌+◌, ◌-◌, ◌<◌, ◌≤◌, Bool, true, false, cond, not, ◌&&◌, List, [], ◌∷◌, length, get_or, drop, Err, ap, ◌∙◌, arith}
+use Rattle.std.proofs.Common.{◌≡◌, ℕ, zero, suc, ◌+◌, ◌-◌, ◌<◌, ◌≤◌, Bool, true, cond, not, List, [], ◌∷◌, length, get_or, drop, Err, ap, ◌∙◌, arith}
 use Rattle.std.proofs.lemmas.List.{length-drop}
-use Rattle.std.proofs.lemmas.Bool.{ne_eqb, eq-eqb}
+use Rattle.std.proofs.lemmas.Bool.{ne_eqb}
 use Rattle.isa.specs.declared.refusal.Refusal.{Refusal}
-use Rattle.isa.specs.declared.refusal.Refusal.TheVariants.{Area}
 use Rattle.isa.specs.declared.instruction.Instruction.{Instruction}
-use Rattle.isa.specs.Places.{user}
 use Rattle.isa.specs.Codes.{operand_bytes, width}
-use Rattle.sequence.specs.Images.{Content, mark, code, wrong, mark_byte, image_fault, read_at, content_at, onward, is_code, further, with_found, walk}
+use Rattle.sequence.specs.Images.{Content, mark, code, wrong, mark_byte, image_fault, read_at, onward, is_code, further, with_found, walk}
 use Rattle.lister.specs.Walks.{place_of, left_in}
 
 -- bytes of the instruction before are passed
@@ -16,24 +14,16 @@ walk_past zero p inside s h = ap (λ q. walk q inside 0 s) (let x : p ≡ p + 0 
 walk_past (suc k) p inside [] h = absurd (omega arith)
 walk_past (suc k) p inside (b ∷ bs) h = walk_past k (suc p) inside bs (omega arith) ∙ ap (λ q. walk q inside 0 (drop k bs)) (let x : suc p + k ≡ p + suc k = omega arith in x)
 
--- what stands in front decides the step
-left_content : (b : ℕ) (bs : List ℕ) (inside : Bool) (c : Content) → content_at (place_of (b ∷ bs)) (b ∷ bs) ≡ c → left_in inside (b ∷ bs) ≡ onward (place_of (b ∷ bs)) inside c (walk (suc (place_of (b ∷ bs))) (is_code c) (further c) bs)
-left_content b bs inside c e = ap (λ y. onward (place_of (b ∷ bs)) inside y (walk (suc (place_of (b ∷ bs))) (is_code y) (further y) bs)) e
-
--- at a mark
-pub left_mark : (b : ℕ) (bs : List ℕ) (inside : Bool) → length (b ∷ bs) ≤ 2048 → b ≡ mark_byte → left_in inside (b ∷ bs) ≡ cond (inside && not (user (place_of (b ∷ bs)))) (Err (image_fault Area (place_of (b ∷ bs)))) (left_in false bs)
-left_mark b bs inside h e =
-    left_content b bs inside mark (ap (λ t. cond t mark (read_at (place_of (b ∷ bs)) (b ∷ bs))) (eq-eqb _ _ e))
-    ∙ ap (λ q. cond (inside && not (user (place_of (b ∷ bs)))) (Err (image_fault Area (place_of (b ∷ bs)))) (walk q false 0 bs)) (let x : suc (place_of (b ∷ bs)) ≡ place_of bs = omega arith in x)
-
--- at no mark
+-- where no mark is in front
 module _ (s : List ℕ) (inside : Bool) (some : 0 < length s) (h : length s ≤ 2048) (n : get_or s 0 0 ≡ mark_byte → ⊥) where
   left_read : (c : Content) → read_at (place_of s) s ≡ c → left_in inside s ≡ onward (place_of s) inside c (walk (suc (place_of s)) (is_code c) (further c) (drop 1 s))
   left_read c e = go s some n e
     where
       go : (t : List ℕ) → 0 < length t → (get_or t 0 0 ≡ mark_byte → ⊥) → read_at (place_of t) t ≡ c → left_in inside t ≡ onward (place_of t) inside c (walk (suc (place_of t)) (is_code c) (further c) (drop 1 t))
       go [] l m k = absurd (omega arith)
-      go (b ∷ bs) l m k = left_content b bs inside c (ap (λ v. cond v mark (read_at (place_of (b ∷ bs)) (b ∷ bs))) (ne_eqb _ _ m) ∙ k)
+      go (b ∷ bs) l m k =
+          let p = place_of (b ∷ bs) in
+          ap (λ y. onward p inside y (walk (suc p) (is_code y) (further y) bs)) (ap (λ v. cond v mark (read_at p (b ∷ bs))) (ne_eqb _ _ m) ∙ k)
 
   pub left_code : (i : Instruction ℕ) → read_at (place_of s) s ≡ code i → width i ≤ length s → left_in inside s ≡ with_found (record { place = place_of s; instruction = i; opens = not inside }) (left_in true (drop (width i) s))
   left_code i e r =

@@ -55,6 +55,7 @@ Gives before None after = left before ≡ Ok []
 Gives before (Some (Ok f)) after = (left before ≡ with_found f (left after)) × (f.place < 2048) × Sound f.instruction
 Gives before (Some (Err e)) after = left before ≡ Err e
 
+-- the instructions of a walk without a fault
 abbrev pub found_in : Result (List Found) ImageFault → List Found
 found_in (Ok fs) = fs
 found_in (Err f) = []

@@ -1,20 +1,21 @@
 -- The test of targets by the map of first bytes is that of the definition.
-use Rattle.std.proofs.Common.{◌≡◌, ℕ, ◌<◌, ◌≤◌, Bool, true, false, cond, ◌&&◌, ◌||◌, eqb, leb, ◌≢◌, List, [], ◌∷◌, length, get_or, set, replicate, Some, None, Ok, Err, Option, Result, sym, refl, ap, ◌∙◌, ⊎_elim, arith, length-set, get_or-set_other, get_or-set_same}
+use Rattle.std.proofs.Common.{◌≡◌, ℕ, ◌<◌, ◌≤◌, Bool, true, false, cond, ◌||◌, ◌≢◌, List, [], ◌∷◌, length, get_or, set, replicate, Some, None, Ok, Err, Option, Result, sym, refl, ap, ◌∙◌, ⊎_elim, arith, length-set, get_or-set_other, get_or-set_same}
 use lib.ListN.{length-replicate}
 use Rattle.std.proofs.lemmas.List.{get_or-replicate}
-use Rattle.std.proofs.lemmas.Bool.{cases_eq, eq-eqb, eqb-true, ne_eqb, le-leb, leb-true, and_from, or_right}
+use Rattle.std.proofs.lemmas.Bool.{cases_eq, eq-eqb, ne_eqb, or_right}
 use Rattle.std.specs.List.{AllByRecursion}
-use Rattle.isa.specs.declared.refusal.Refusal.TheVariants.{Size, Target}
-use Rattle.isa.specs.Checks.{and_then, require}
+use Rattle.isa.specs.declared.refusal.Refusal.TheVariants.{Target}
+use Rattle.isa.specs.Checks.{and_then}
 use Rattle.isa.specs.Instructions.{target_of}
 use Rattle.isa.specs.Codes.{in_range}
 use Rattle.isa.proofs.RoundTrip.{target_low}
 use Rattle.sequence.specs.declared.image.ImageFault.{ImageFault}
 use Rattle.sequence.specs.declared.image.Found.{Found}
 use Rattle.sequence.specs.Images.{image_fault, walk, begins, begun, aimed}
-use Rattle.sequence.specs.Listings.{printed, listing, listed}
+use Rattle.sequence.specs.Listings.{printed, listing}
 use Rattle.sequence.proofs.Contents.{walk_in_range}
-use Rattle.lister.specs.Targets.{marked, firsts, first, checked_all}
+use Rattle.lister.specs.Targets.{marked, firsts, first, checked_all, checked}
+use Rattle.lister.specs.Walks.{found_in}
 
 marks_at : (fs : List Found) (m : List Bool) (t : ℕ) → t < length m → get_or (marked fs m) t false ≡ (begins fs t || get_or m t false)
 marks_at [] m t h = refl
@@ -53,7 +54,7 @@ checks all (f ∷ fs) a =
     go false h = refl
 
 -- the listing by way of that test
-pub listing_checked : (im : List ℕ) (fs : List Found) → walk 0 false 0 im ≡ Ok fs → listing im ≡ and_then (checked_all (marked fs blank) fs) (λ _. Ok (printed fs))
+listing_checked : (im : List ℕ) (fs : List Found) → walk 0 false 0 im ≡ Ok fs → listing im ≡ and_then (checked_all (marked fs blank) fs) (λ _. Ok (printed fs))
 listing_checked im fs e =
     ap (λ w. and_then (and_then w (λ fs. aimed fs fs)) (λ fs. Ok (printed fs))) e
     ∙ ap (λ w. and_then w (λ fs. Ok (printed fs))) (sym (checks fs fs (walk_in_range im 0 false 0 fs e)))
@@ -63,29 +64,17 @@ listing_checked im fs e =
     go (Ok u) = refl
     go (Err x) = refl
 
-pub listing_refused : (im : List ℕ) (x : ImageFault) → walk 0 false 0 im ≡ Err x → listing im ≡ Err x
-listing_refused im x e = ap (λ w. and_then (and_then w (λ fs. aimed fs fs)) (λ fs. Ok (printed fs))) e
-
--- sizes
-pub unsized : (im : List ℕ) (room : ℕ) → (length im ≡ 2048 → 16384 ≤ room → ⊥) → listed im room ≡ Err (image_fault Size 0)
-unsized im room h = ap (λ t. and_then (require t (image_fault Size 0)) (λ _. listing im)) (refuses (eqb (length im) 2048) (leb 16384 room) refl refl)
+-- the listing by way of the map of first bytes and that test
+pub listing_tested : (im : List ℕ) (m : List Bool) → Ok m ≡ firsts (walk 0 false 0 im) blank → listing im ≡ and_then (checked m (walk 0 false 0 im)) (λ _. Ok (printed (found_in (walk 0 false 0 im))))
+listing_tested im m = go (walk 0 false 0 im) refl
   where
-    refuses : (a b : Bool) → eqb (length im) 2048 ≡ a → leb 16384 room ≡ b → (a && b) ≡ false
-    refuses true true p q = absurd (h (eqb-true _ _ p) (leb-true _ _ q))
-    refuses true false p q = refl
-    refuses false b p q = refl
+    go : (w : Result (List Found) ImageFault) → walk 0 false 0 im ≡ w → Ok m ≡ firsts w blank → listing im ≡ and_then (checked m w) (λ _. Ok (printed (found_in w)))
+    go (Ok fs) e h = listing_checked im fs e ∙ ap (λ k. and_then (checked_all k fs) (λ _. Ok (printed fs))) (let x : marked fs blank ≡ m = cc in x)
+    go (Err x) e h = let z : ◌≡◌ {A = ℕ} 0 1 = cc in absurd (omega arith)
 
-pub sized : (im : List ℕ) (room : ℕ) → length im ≡ 2048 → 16384 ≤ room → listed im room ≡ listing im
-sized im room e l = ap (λ t. and_then (require t (image_fault Size 0)) (λ _. listing im)) (and_from _ _ (eq-eqb (length im) 2048 e) (le-leb 16384 room l))
-
--- what the map of first bytes was made of
-pub walked : (w : Result (List Found) ImageFault) (m : List Bool) → Ok m ≡ firsts w blank → (fs : List Found) × (w ≡ Ok fs) × (m ≡ marked fs blank)
-walked (Ok fs) m e = (fs, refl, cc)
-walked (Err x) m e = let z : ◌≡◌ {A = ℕ} 0 1 = cc in absurd (omega arith)
-
-pub unwalked : (w : Result (List Found) ImageFault) (x : ImageFault) → Err x ≡ firsts w blank → w ≡ Err x
-unwalked (Ok fs) x e = let z : ◌≡◌ {A = ℕ} 0 1 = cc in absurd (omega arith)
-unwalked (Err y) x e = sym e'
+pub listing_untested : (im : List ℕ) (x : ImageFault) → Err x ≡ firsts (walk 0 false 0 im) blank → listing im ≡ Err x
+listing_untested im x = go (walk 0 false 0 im) refl
   where
-    e' : ◌≡◌ {A = Result (List Found) ImageFault} (Err x) (Err y)
-    e' = cc
+    go : (w : Result (List Found) ImageFault) → walk 0 false 0 im ≡ w → Err x ≡ firsts w blank → listing im ≡ Err x
+    go (Ok fs) e h = let z : ◌≡◌ {A = ℕ} 0 1 = cc in absurd (omega arith)
+    go (Err y) e h = ap (λ w. and_then (and_then w (λ fs. aimed fs fs)) (λ fs. Ok (printed fs))) e ∙ ap Err (let q : y ≡ x = cc in q)

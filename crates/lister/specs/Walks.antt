@@ -1,45 +1,61 @@
 -- What the walk of the code has to do with that of the definition.
-use Rattle.std.specs.Prelude.{◌≡◌, ℕ, ◌+◌, ◌<◌, ◌≤◌, Bool, true, cond, not, ◌&&◌, List, [], drop, Some, None, Ok, Err, Option, Result, ◌≢◌, slice_index}
+use Rattle.std.specs.Prelude.{◌≡◌, ℕ, ◌+◌, ◌-◌, ◌*◌, ◌<◌, ◌≤◌, Bool, true, cond, List, [], length, drop, Some, None, Ok, Err, Option, Result, ◌≢◌, slice_index}
 use Rattle.isa.specs.declared.refusal.Refusal.{Refusal}
-use Rattle.isa.specs.declared.refusal.Refusal.TheVariants.{Area}
 use Rattle.isa.specs.declared.instruction.Instruction.{Instruction}
-use Rattle.isa.specs.Places.{user}
+use Rattle.isa.specs.Places.{image_size}
 use Rattle.isa.specs.Instructions.{target_of}
 use Rattle.isa.specs.Codes.{width, in_range}
 use Rattle.sequence.specs.declared.image.ImageFault.{ImageFault}
 use Rattle.sequence.specs.declared.image.Found.{Found}
-use Rattle.sequence.specs.Images.{Content, code, wrong, mark_byte, image_fault, with_found, walk}
-use Rattle.lister.specs.declared.walk.Cursor.{Cursor}
-use Rattle.lister.specs.declared.walk.Read.{Read}
+use Rattle.sequence.specs.Images.{code, wrong, mark_byte, image_fault, read_at, with_found, walk}
+use Rattle.lister.specs.declared.walk.Walk.{Walk}
 
--- what is yet to come from a cursor on
-abbrev pub left : List ℕ → Cursor → Result (List Found) ImageFault
-left im c = walk c.place c.inside 0 (drop c.place im)
+-- the place of the first of the bytes at the end of an image
+abbrev pub place_of : List ℕ → ℕ
+place_of s = image_size - length s
 
-abbrev pub cursor : ℕ → Bool → Cursor
-cursor p inside = record { place = p; inside = inside }
+-- what is yet to come where these bytes are left
+abbrev pub left_in : Bool → List ℕ → Result (List Found) ImageFault
+left_in inside s = walk (place_of s) inside 0 s
+
+abbrev pub reached : Walk → ℕ
+reached w = place_of w.rest.now
+
+abbrev pub left : Walk → Result (List Found) ImageFault
+left w = left_in w.inside w.rest.now
+
+-- no more items than this are yet to come
+abbrev pub turns : Walk → ℕ
+turns w = 2 * length w.rest.now + cond w.inside 1 0
 
 -- the operands are in range; hence a target is a place
 pub record Sound (i : Instruction ℕ) : Type 0 where
   pub range : in_range i ≡ true
   pub low : (t : ℕ) → target_of i ≡ Some t → t ≤ 2047
 
--- a mark that ends a stretch stands in a user place
-abbrev pub mark_checked : Cursor → Result (Unit {0}) ImageFault
-mark_checked c = cond (c.inside && not (user c.place)) (Err (image_fault Area c.place)) (Ok tt)
-
--- what a read at place p answers
-abbrev pub Reads : ℕ → Result Read Refusal → Content → Type 0
-Reads p (Ok x) c = (c ≡ code x.instruction) × (x.width ≡ width x.instruction) × (1 ≤ x.width) × (p + x.width ≤ 2048) × Sound x.instruction
-Reads p (Err r) c = c ≡ wrong r
-
 -- the marks in front are passed
-abbrev pub Passed : Result (Unit {0}) ImageFault → List ℕ → Cursor → Cursor → Type 0
-Passed (Ok u) im before after = (left im before ≡ left im after) × (before.place ≤ after.place) × (after.place < 2048 → slice_index im after.place ≢ mark_byte)
-Passed (Err f) im before after = left im before ≡ Err f
+abbrev pub Passed : Result (Unit {0}) Refusal → Walk → Walk → Type 0
+Passed (Ok u) before after = (left before ≡ left after) × (turns after ≤ turns before) × (0 < length after.rest.now → slice_index after.rest.now 0 ≢ mark_byte)
+Passed (Err r) before after = left before ≡ Err (image_fault r (reached after))
+
+-- the instruction in front is read and passed
+abbrev pub Reads : Result (Instruction ℕ) Refusal → Walk → Walk → Type 0
+Reads (Ok i) before after = (read_at (reached before) before.rest.now ≡ code i) × (width i ≤ length before.rest.now) × (after.rest.now ≡ drop (width i) before.rest.now) × Sound i
+Reads (Err r) before after = (read_at (reached before) before.rest.now ≡ wrong r) × (after.rest.now ≡ before.rest.now)
 
 -- one step of the walk
-abbrev pub Gives : Result (Option Found) ImageFault → List ℕ → Cursor → Cursor → Type 0
-Gives (Ok None) im before after = left im before ≡ Ok []
-Gives (Ok (Some f)) im before after = (left im before ≡ with_found f (left im after)) × (before.place < after.place) × (f.place < 2048) × Sound f.instruction
-Gives (Err e) im before after = left im before ≡ Err e
+abbrev pub Steps : Result (Option Found) Refusal → Walk → Walk → Type 0
+Steps (Ok None) before after = left before ≡ Ok []
+Steps (Ok (Some f)) before after = (left before ≡ with_found f (left after)) × (turns after < turns before) × (f.place < 2048) × Sound f.instruction
+Steps (Err r) before after = left before ≡ Err (image_fault r (reached after))
+
+-- one item of the walk
+abbrev pub Gives : Walk → Option (Result Found ImageFault) → Walk → Type 0
+Gives before None after = left before ≡ Ok []
+Gives before (Some (Ok f)) after = (left before ≡ with_found f (left after)) × (f.place < 2048) × Sound f.instruction
+Gives before (Some (Err e)) after = left before ≡ Err e
+
+-- the instructions of a walk without a fault
+abbrev pub found_in : Result (List Found) ImageFault → List Found
+found_in (Ok fs) = fs
+found_in (Err f) = []

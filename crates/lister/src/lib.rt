@@ -2,20 +2,19 @@
 
 #![tactic(auto)]
 
-ghost use Rattle.std.specs.Prelude.{◌≡◌, length};
-ghost use Rattle.sequence.specs.Listings.{listed, answered, written, Short};
+ghost use Rattle.std.specs.Prelude.{◌≡◌, ◌≤◌, length};
+ghost use Rattle.sequence.specs.Listings.{listing, listed, answered, written, Short};
 ghost use Rattle.sequence.specs.RoundTrips.{Relists, RefusesRightly};
 
-use isa::Refusal;
+use isa::{IMAGE_SIZE, Refusal};
 use sequence::ImageFault;
 
 mod print;
 mod targets;
 mod walk;
 
-const IMAGE_SIZE: usize = 2_048;
-
-const LISTING_ROOM: usize = 16_384;
+/// The output that every listing fits into.
+pub const LISTING_ROOM: usize = 16_384;
 
 /// Lists an image: its listing in front of `out`, and how many bytes that takes.
 ///
@@ -28,12 +27,20 @@ pub fn list(image: &[u8], out: &mut [u8]) -> Result<usize, ImageFault>
     ensures relisted { Relists image.now }
     ensures exact { RefusesRightly image.now }
 {
-    if image.len() != IMAGE_SIZE || out.len() < LISTING_ROOM {
-        return Err(ImageFault {
-            refusal: Refusal::Size,
-            place: 0,
-        });
+    let fault = ImageFault::new(Refusal::Size, 0);
+    let image = image.as_array().ok_or(fault)?;
+    if out.len() < LISTING_ROOM {
+        return Err(fault);
     }
+    list_image(image, out)
+}
+
+/// Lists an image into an output that has room for it.
+fn list_image(image: &[u8; IMAGE_SIZE], out: &mut [u8]) -> Result<usize, ImageFault>
+    requires { LISTING_ROOM ≤ length out.old }
+    ensures answer { result ≡ answered (listing image.now) }
+    ensures output { out.new ≡ written out.old (listing image.now) }
+{
     let firsts = targets::first_bytes(image)?;
     targets::check(image, &firsts)?;
     print::print(image, out)

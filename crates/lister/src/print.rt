@@ -1,145 +1,117 @@
 //! The listing, written into the caller's buffer.
 
-ghost use Rattle.std.specs.Prelude.{◌≡◌, ◌+◌, ◌<◌, ◌≤◌, true, false, [], ◌∷◌, length, is_ok, Ok, unsigned_abs};
+ghost use Rattle.std.specs.Prelude.{◌≡◌, ◌≤◌, true, false, length, is_ok, Ok};
 ghost use Rattle.std.proofs.lemmas.List.Edits.{sets};
-ghost use Rattle.isa.specs.Codes.{in_range};
 ghost use Rattle.isa.specs.Instructions.{letter_of};
 ghost use Rattle.isa.specs.Table.{shape_of};
 ghost use Rattle.sequence.specs.Images.{walk};
-ghost use Rattle.sequence.specs.Listings.{space, count, operand_text, instruction_text, at_line, instruction_line, opening, found_text, printed};
-ghost use Rattle.sequence.specs.Numbers.{decimal, signed};
-ghost use Rattle.lister.specs.Writes.{Wrote, found_in};
+ghost use Rattle.sequence.specs.Listings.{count, printed};
+ghost use Rattle.lister.specs.Walks.{found_in};
 
-use crate::walk::{Cursor, next};
-use isa::{Instruction, Operands, shape_of};
+use crate::walk::Walk;
+use isa::{IMAGE_SIZE, Instruction, Operands, shape_of};
+use itoa::{Buffer, Integer};
 use sequence::{Found, ImageFault};
 
-/// Writes a number's digits.
-fn write_number(out: &mut [u8], at: usize, n: u32) -> usize
-    requires { (n < 100000000) × (at + length (decimal n) ≤ length out.old) }
-    ensures { Wrote (decimal n) at result out.old out.new }
-{
-    if n < 10 {
-        out[at] = b'0' + n as u8;
-        return at + 1;
-    }
-    let last = write_number(out, at, n / 10);
-    out[last] = b'0' + (n % 10) as u8;
-    last + 1
+/// A text in front of the buffer that it is written into.
+// Stays: the buffer is lent by the caller, so the text's length stands beside it.
+#[derive(Drop)]
+struct Listing<'a> {
+    out: &'a mut [u8],
+    len: usize,
 }
 
-fn write_signed(out: &mut [u8], at: usize, n: i64) -> usize
-    requires { (unsigned_abs n < 100000000) × (at + length (signed n) ≤ length out.old) }
-    ensures { Wrote (signed n) at result out.old out.new }
-{
-    let size = n.unsigned_abs() as u32;
-    if n < 0 {
-        out[at] = b'-';
-        write_number(out, at + 1, size)
-    } else {
-        write_number(out, at, size)
-    }
-}
+impl<'a> Listing<'a> {
+    ghost use Rattle.std.specs.Prelude.{◌≡◌, ◌<◌, true, unsigned_abs, All};
+    ghost use Rattle.isa.specs.Codes.{in_range};
+    ghost use Rattle.sequence.specs.Listings.{instruction_text, at_line, found_text};
+    ghost use Rattle.sequence.specs.Numbers.{signed};
+    ghost use Rattle.lister.specs.Writes.{HasRoom, Appends, spaced};
 
-fn write_operand(out: &mut [u8], at: usize, n: i64) -> usize
-    requires { (unsigned_abs n < 100000000) × (at + length (space ∷ signed n) ≤ length out.old) }
-    ensures { Wrote (space ∷ signed n) at result out.old out.new }
-{
-    out[at] = b' ';
-    write_signed(out, at + 1, n)
-}
+    /// Writes these bytes.
+    fn push(&mut self, text: &[u8])
+        requires { HasRoom text.now self.old }
+        ensures { Appends text.now self.old self.new }
+    {
+        let end = self.len + text.len();
+        self.out[self.len..end].copy_from_slice(text);
+        self.len = end;
+    }
 
-/// Writes the first `count` of two operands, each after a space.
-fn write_operands(out: &mut [u8], at: usize, count: usize, first: i64, second: i64) -> usize
-    requires { (unsigned_abs first < 100000000) × ((unsigned_abs second < 100000000) × (at + length (operand_text count first second) ≤ length out.old)) }
-    ensures { Wrote (operand_text count first second) at result out.old out.new }
-{
-    if count < 1 {
-        return at;
+    /// Writes a number.
+    fn push_number<I: Integer>(&mut self, n: I)
+        requires { HasRoom (I.text n) self.old }
+        ensures { Appends (I.text n) self.old self.new }
+    {
+        self.push(Buffer::new().format(n).as_bytes());
     }
-    let next = write_operand(out, at, first);
-    if count < 2 {
-        return next;
+
+    /// Writes operands, each after a space.
+    fn push_operands(&mut self, operands: &[i64])
+        requires short { All (λ z. unsigned_abs z < 100000000) operands.now }
+        requires room { HasRoom (spaced operands.now) self.old }
+        ensures { Appends (spaced operands.now) self.old self.new }
+    {
+        for operand in operands {
+            self.push(b" ");
+            self.push_number(*operand);
+        }
     }
-    write_operand(out, next, second)
+
+    /// Writes letter and operands.
+    fn push_instruction(&mut self, instruction: Instruction<u16>)
+        requires range { in_range instruction ≡ true }
+        requires room { HasRoom (instruction_text instruction) self.old }
+        ensures { Appends (instruction_text instruction) self.old self.new }
+    {
+        self.push(&[instruction.letter()]);
+        let Operands { first, second } = instruction.operands();
+        self.push_operands(&[first, second][..operand_count(instruction)]);
+    }
+
+    /// Writes the line that opens a stretch.
+    fn push_at_line(&mut self, place: u16)
+        requires { HasRoom (at_line place) self.old }
+        ensures { Appends (at_line place) self.old self.new }
+    {
+        self.push(b"at ");
+        self.push_number(place);
+        self.push(b"\n");
+    }
+
+    /// Writes the line of an instruction; the first of a stretch has the line that opens it before its own.
+    fn push_found(&mut self, found: Found)
+        requires range { in_range found.instruction ≡ true }
+        requires room { HasRoom (found_text found) self.old }
+        ensures { Appends (found_text found) self.old self.new }
+    {
+        if found.opens {
+            self.push_at_line(found.place);
+        }
+        self.push_number(found.place);
+        self.push(b" ");
+        self.push_instruction(found.instruction);
+        self.push(b"\n");
+    }
 }
 
 /// How many operands an instruction's letter takes.
 fn operand_count(instruction: Instruction<u16>) -> usize
     ensures { result ≡ count (shape_of (letter_of instruction)) }
 {
-    match shape_of(instruction.letter() as char) {
-        Some(shape) => shape.operand_count(),
-        None => 0,
-    }
-}
-
-/// Writes letter and operands.
-fn write_instruction(out: &mut [u8], at: usize, instruction: Instruction<u16>) -> usize
-    requires { (in_range instruction ≡ true) × (at + length (instruction_text instruction) ≤ length out.old) }
-    ensures { Wrote (instruction_text instruction) at result out.old out.new }
-{
-    out[at] = instruction.letter();
-    let Operands { first, second } = instruction.operands();
-    let count = operand_count(instruction);
-    write_operands(out, at + 1, count, first, second)
-}
-
-/// Writes the line that opens a stretch.
-fn write_at_line(out: &mut [u8], at: usize, place: u16) -> usize
-    requires { at + length (at_line place) ≤ length out.old }
-    ensures { Wrote (at_line place) at result out.old out.new }
-{
-    out[at] = b'a';
-    out[at + 1] = b't';
-    out[at + 2] = b' ';
-    let end = write_number(out, at + 3, u32::from(place));
-    out[end] = b'\n';
-    end + 1
-}
-
-/// Writes the line of an instruction.
-fn write_line(out: &mut [u8], at: usize, place: u16, instruction: Instruction<u16>) -> usize
-    requires { (in_range instruction ≡ true) × (at + length (instruction_line place instruction) ≤ length out.old) }
-    ensures { Wrote (instruction_line place instruction) at result out.old out.new }
-{
-    let after = write_number(out, at, u32::from(place));
-    out[after] = b' ';
-    let end = write_instruction(out, after + 1, instruction);
-    out[end] = b'\n';
-    end + 1
-}
-
-/// Writes what the listing says of one instruction.
-fn write_found(out: &mut [u8], at: usize, found: Found) -> usize
-    requires { (in_range found.instruction ≡ true) × (at + length (found_text found) ≤ length out.old) }
-    ensures { Wrote (found_text found) at result out.old out.new }
-{
-    let start = write_opening(out, at, found);
-    write_line(out, start, found.place, found.instruction)
-}
-
-/// Writes the line that opens a stretch, if this instruction is its first.
-fn write_opening(out: &mut [u8], at: usize, found: Found) -> usize
-    requires { at + length (opening found) ≤ length out.old }
-    ensures { Wrote (opening found) at result out.old out.new }
-{
-    if found.opens {
-        return write_at_line(out, at, found.place);
-    }
-    at
+    shape_of(char::from(instruction.letter())).map_or(0, |shape| shape.operand_count())
 }
 
 /// Writes the listing of an image in front of `out`.
-pub(crate) fn print(image: &[u8], out: &mut [u8]) -> Result<usize, ImageFault>
-    requires { (length image.now ≡ 2048) × ((is_ok (walk 0 false 0 image.now) ≡ true) × (length (printed (found_in (walk 0 false 0 image.now))) ≤ length out.old)) }
+pub(crate) fn print(image: &[u8; IMAGE_SIZE], out: &mut [u8]) -> Result<usize, ImageFault>
+    requires accepted { is_ok (walk 0 false 0 image.now) ≡ true }
+    requires room { length (printed (found_in (walk 0 false 0 image.now))) ≤ length out.old }
     ensures answer { result ≡ Ok (length (printed (found_in (walk 0 false 0 image.now)))) }
     ensures output { out.new ≡ sets out.old 0 (printed (found_in (walk 0 false 0 image.now))) }
 {
-    let mut at = 0;
-    let mut cursor = Cursor::start();
-    while let Some(found) = next(image, &mut cursor)? {
-        at = write_found(out, at, found);
+    let mut listing = Listing { out, len: 0 };
+    for found in Walk::new(image) {
+        listing.push_found(found?);
     }
-    Ok(at)
+    Ok(listing.len)
 }

@@ -1,140 +1,133 @@
 //! The walk over an image, instruction by instruction.
 
-ghost use Rattle.std.specs.Prelude.{◌≡◌, ℕ, ◌+◌, ◌<◌, ◌≤◌, false, length, drop, slice_index};
+ghost use Rattle.std.specs.Prelude.{◌≡◌, ◌≤◌, length};
 ghost use Rattle.isa.specs.Codes.{padded, decoded};
 ghost use Rattle.isa.specs.Laws.{Decodes};
-ghost use Rattle.sequence.specs.Images.{read_at};
-ghost use Rattle.lister.specs.Walks.{left, mark_checked, Reads, Passed, Gives};
 
-use isa::{Instruction, Refusal, decode, is_user_place, shape_of};
+use isa::{IMAGE_SIZE, Instruction, MARK, Refusal, decode, is_user_place, shape_of};
 use sequence::{Found, ImageFault};
 
-const END: u16 = 2_048;
-
-const MARK: u8 = 255;
-
-/// How far the walk has come, and whether a stretch is open there.
-#[derive(Clone, Copy)]
-pub(crate) struct Cursor {
-    pub place: u16,
-    pub inside: bool,
+/// The instructions of an image in their order; a fault is the last item.
+#[derive(Drop)]
+pub(crate) struct Walk<'a> {
+    /// The bytes that are left.
+    rest: &'a [u8],
+    /// Whether a stretch is open.
+    inside: bool,
+    ghost within: { length rest.now ≤ 2048 },
 }
 
-impl Cursor {
-    pub(crate) fn start() -> Cursor
-        ensures { result ≡ record { place = 0; inside = false } }
+impl<'a> Walk<'a> {
+    ghost use Rattle.std.specs.Prelude.{◌≡◌, ◌<◌, false, length};
+    ghost use Rattle.sequence.specs.Images.{walk};
+    ghost use Rattle.lister.specs.Walks.{reached, left, Passed, Reads, Steps};
+
+    pub(crate) fn new(image: &'a [u8; IMAGE_SIZE]) -> Walk<'a>
+        ensures { left result ≡ walk 0 false 0 image.now }
     {
-        Cursor {
-            place: 0,
+        Walk {
+            rest: image,
             inside: false,
         }
     }
-}
 
-/// An instruction and its number of bytes.
-#[derive(Clone, Copy)]
-pub(crate) struct Read {
-    instruction: Instruction<u16>,
-    width: u16,
-}
-
-/// The next instruction, or `None` at the end of the image.
-pub(crate) fn next(image: &[u8], cursor: &mut Cursor) -> Result<Option<Found>, ImageFault>
-    requires { (length image.now ≡ 2048) × (cursor.old.place ≤ 2048) }
-    ensures gives { Gives result image.now cursor.old cursor.new }
-    ensures low { cursor.new.place ≤ 2048 }
-{
-    skip_marks(image, cursor)?;
-    let place = cursor.place;
-    let inside = cursor.inside;
-    if place == END {
-        if inside {
-            return Err(ImageFault {
-                refusal: Refusal::Area,
-                place,
-            });
-        }
-        return Ok(None);
+    /// The place of the first byte that is left.
+    fn place(&self) -> u16
+        ensures { result ≡ reached self.now }
+    {
+        (IMAGE_SIZE - self.rest.len()) as u16
     }
-    match read_at(image, place) {
-        Ok(read) => {
-            *cursor = Cursor {
-                place: place + read.width,
-                inside: true,
+
+    /// The next instruction, or `None` at the end of the image; a refusal is of the place reached.
+    fn step(&mut self) -> Result<Option<Found>, Refusal>
+        ensures { Steps result self.old self.new }
+    {
+        self.skip_marks()?;
+        if self.rest.is_empty() {
+            return if self.inside {
+                Err(Refusal::Area)
+            } else {
+                Ok(None)
             };
-            Ok(Some(Found {
-                place,
-                instruction: read.instruction,
-                opens: !inside,
-            }))
         }
-        Err(refusal) => Err(ImageFault { refusal, place }),
+        let place = self.place();
+        let opens = !self.inside;
+        let instruction = self.read()?;
+        self.inside = true;
+        Ok(Some(Found {
+            place,
+            instruction,
+            opens,
+        }))
+    }
+
+    /// Passes the marks in front; one that ends a stretch stands in a user place.
+    fn skip_marks(&mut self) -> Result<(), Refusal>
+        ensures { Passed result self.old self.new }
+    {
+        while let [MARK, rest @ ..] = self.rest {
+            if self.inside && !is_user_place(self.place()) {
+                return Err(Refusal::Area);
+            }
+            self.rest = rest;
+            self.inside = false;
+        }
+        Ok(())
+    }
+
+    /// Reads the instruction in front and passes it.
+    fn read(&mut self) -> Result<Instruction<u16>, Refusal>
+        requires { 0 < length self.old.rest.now }
+        ensures { Reads result self.old self.new }
+    {
+        let place = self.place();
+        if !is_user_place(place) {
+            return Err(Refusal::Area);
+        }
+        let shape = shape_of(char::from(self.rest[0])).ok_or(Refusal::Code)?;
+        let width = shape.width();
+        if !is_user_place(place + (width - 1) as u16) {
+            return Err(Refusal::Area);
+        }
+        let (code, rest) = self.rest.split_at(width);
+        let instruction = decode_bytes(code)?;
+        self.rest = rest;
+        Ok(instruction)
     }
 }
 
-/// Passes the marks in front; one that ends a stretch stands in a user place.
-fn skip_marks(image: &[u8], cursor: &mut Cursor) -> Result<(), ImageFault>
-    requires { (length image.now ≡ 2048) × (cursor.old.place ≤ 2048) }
-    ensures passed { Passed result image.now cursor.old cursor.new }
-    ensures low { cursor.new.place ≤ 2048 }
-{
-    while cursor.place < END && image[usize::from(cursor.place)] == MARK {
-        check_mark(*cursor)?;
-        *cursor = Cursor {
-            place: cursor.place + 1,
-            inside: false,
-        };
-    }
-    Ok(())
-}
+impl Iterator for Walk<'_> {
+    ghost use Rattle.std.specs.Iterator.{at_most};
+    ghost use Rattle.lister.specs.Walks.{turns, Gives};
 
-/// The mark that ends a stretch stands in a user place.
-fn check_mark(cursor: Cursor) -> Result<(), ImageFault>
-    ensures { result ≡ mark_checked cursor }
-{
-    if cursor.inside && !is_user_place(cursor.place) {
-        return Err(ImageFault {
-            refusal: Refusal::Area,
-            place: cursor.place,
-        });
-    }
-    Ok(())
-}
+    type Item = Result<Found, ImageFault>;
 
-/// Reads the instruction at a place.
-fn read_at(image: &[u8], place: u16) -> Result<Read, Refusal>
-    requires { (length image.now ≡ 2048) × (place < 2048) }
-    ensures { Reads place result (read_at place (drop place image.now)) }
-{
-    if !is_user_place(place) {
-        return Err(Refusal::Area);
+    ghost next_gives = { Gives };
+
+    ghost remaining = { λ w. at_most (turns w) };
+
+    fn next(&mut self) -> Option<Result<Found, ImageFault>> {
+        match self.step() {
+            Ok(found) => found.map(Ok),
+            Err(refusal) => {
+                let fault = ImageFault::new(refusal, self.place());
+                *self = Walk {
+                    rest: &[],
+                    inside: false,
+                };
+                Some(Err(fault))
+            }
+        }
     }
-    let start = usize::from(place);
-    let Some(shape) = shape_of(image[start] as char) else {
-        return Err(Refusal::Code);
-    };
-    let width = shape.width();
-    if !is_user_place(place + (width - 1) as u16) {
-        return Err(Refusal::Area);
-    }
-    let instruction = decode_bytes(&image[start..start + width])?;
-    Ok(Read {
-        instruction,
-        width: width as u16,
-    })
 }
 
 /// The instruction that these bytes are, 0 standing for those past their end.
 fn decode_bytes(code: &[u8]) -> Result<Instruction<u16>, Refusal>
+    requires { length code.now ≤ 4 }
     ensures value { result ≡ decoded code.now }
     ensures law { Decodes (padded code.now) result }
 {
-    decode([byte(code, 0), byte(code, 1), byte(code, 2), byte(code, 3)])
-}
-
-/// A byte of an instruction, or 0 past its end.
-fn byte(code: &[u8], i: usize) -> u8
-    ensures { result ≡ slice_index code.now i }
-{
-    if i < code.len() { code[i] } else { 0 }
+    let mut bytes = [0; 4];
+    bytes[..code.len()].copy_from_slice(code);
+    decode(bytes)
 }

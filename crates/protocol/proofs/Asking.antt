@@ -1,8 +1,7 @@
--- What a message asks, by its first byte that is not allowed; and every message that is read fits.
+-- Every message that is read fits.
 use Rattle.std.proofs.Common.{◌≡◌, ℕ, Bool, true, false, cond, eqb, List, [], ◌∷◌, ℤ, pos, negsuc, Some, None, Ok, Err, Option, Result, sym, refl, ap, ◌∙◌, arith}
-use Rattle.std.proofs.lemmas.Bool.{ne_eqb}
 use Rattle.isa.specs.declared.refusal.Refusal.{Refusal}
-use Rattle.isa.specs.declared.refusal.Refusal.TheVariants.{Character, Letter, Code as NoLetter}
+use Rattle.isa.specs.declared.refusal.Refusal.TheVariants.{Letter, Code as NoLetter}
 use Rattle.isa.specs.declared.shape.Order.TheVariants.{First, Second}
 use Rattle.isa.specs.declared.shape.Shape.{Shape}
 use Rattle.isa.specs.declared.shape.Shape.TheVariants.{Plain, Byte, Pair as Two, Word, Target, TargetByte, Signed, Long}
@@ -13,27 +12,17 @@ use Rattle.isa.specs.declared.instruction.Instruction.{Instruction}
 use Rattle.isa.specs.declared.instruction.Instruction.TheVariants.{Go, Jump, JumpLow, Act}
 use Rattle.isa.specs.declared.table.Entry.{Entry}
 use Rattle.isa.specs.declared.table.Entry.TheVariants.{Unknown, OutOfRange, Fits}
-use Rattle.isa.specs.Checks.{and_then, require}
 use Rattle.isa.specs.Codes.{in_range, instruction_in}
 use Rattle.isa.specs.Instructions.{letter_of}
 use Rattle.isa.specs.Shapes.{operands}
 use Rattle.isa.specs.Table.{within, nat, entry, shape_of}
 use Rattle.isa.proofs.RoundTrip.{by_letter, target_low, entry_in_range}
-use Rattle.sequence.specs.Texts.{Token, tokens}
+use Rattle.sequence.specs.Texts.{Token}
 use Rattle.sequence.specs.Lines.{Operand, number, named, Pair, pair_of, value_of, aimed_at, ranged, formed, touching, coded, first_bad}
 use Rattle.sequence.specs.Lines as Lines
 use Rattle.machine.specs.declared.message.Message.{Message}
-use Rattle.machine.specs.Messages.{soft_stop_letter, barred, asked, asked_by, soft_stop, bare, lettered, worded, message_of}
+use Rattle.machine.specs.Messages.{soft_stop_letter, barred, asked, asked_by, soft_stop, bare, lettered, worded}
 use Rattle.protocol.specs.Fits.{NoWait, FitsRead}
-
--- 2 goes first
-pub unallowed : (bs : List ℕ) → (first_bad 1 bs ≡ 0 → ⊥) → message_of bs ≡ Err Character
-unfolding message_of
-unallowed bs h = ap (λ t. and_then (require t Character) (λ _. worded (tokens 1 true bs))) (ne_eqb (first_bad 1 bs) 0 h)
-
-pub allowed_all : (bs : List ℕ) → first_bad 1 bs ≡ 0 → message_of bs ≡ worded (tokens 1 true bs)
-unfolding message_of
-allowed_all bs h = ap (λ n. and_then (require (eqb n 0) Character) (λ _. worded (tokens 1 true bs))) h
 
 -- what the table gives has the letter that was asked for
 row_letter : (t u : Bool) (s : Shape) (j i : Instruction ℕ) → instruction_in (cond t (cond u (Fits s j) (OutOfRange s Second)) (OutOfRange s First)) ≡ Ok i → letter_of i ≡ letter_of j
@@ -111,14 +100,6 @@ lettered_fits c (b ∷ bs) ts =
     unless (eqb b soft_stop_letter) (soft_stop bs ts) _ (soft_fits bs ts) (λ _.
     unless (barred b) (Err Letter) (asked_by (coded bare c (b ∷ bs) ts)) tt (λ h. shaped_fits c b (no_bar b h) (touching c bs ts) (shape_of b)))
 
-worded_fits : (ts : List Token) → FitsRead (worded ts)
+pub worded_fits : (ts : List Token) → FitsRead (worded ts)
 worded_fits [] = tt
 worded_fits (t ∷ ts) = lettered_fits t.column t.bytes ts
-
-pub message_fits : (bs : List ℕ) → FitsRead (message_of bs)
-unfolding message_of
-message_fits bs = go (eqb (first_bad 1 bs) 0)
-  where
-    go : (t : Bool) → FitsRead (and_then (require t Character) (λ _. worded (tokens 1 true bs)))
-    go true = worded_fits (tokens 1 true bs)
-    go false = tt

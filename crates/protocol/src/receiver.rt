@@ -15,7 +15,7 @@ use std::mem;
 /// The bytes that a message has at most, its name not counted.
 const LONGEST: usize = 12;
 
-#[derive(Drop)]
+#[derive(Clone, Debug, Drop)]
 enum Heard {
     /// No line feed yet, or a message to another, or one that was cut off.
     Deaf,
@@ -28,7 +28,7 @@ enum Heard {
 }
 
 /// What an axis has heard since the last line feed.
-#[derive(Drop)]
+#[derive(Clone, Debug, Drop)]
 pub struct Receiver {
     heard: Heard,
 }

@@ -7,15 +7,13 @@ ghost use Rattle.isa.specs.Places.{user};
 ghost use Rattle.isa.specs.Table.{shape_of};
 ghost use Rattle.machine.specs.Stores.{operand_byte, operands_at, shaped, fetched};
 
-use isa::{Instruction, Refusal, decode, is_user_place, shape_of};
+use isa::{Instruction, MARK, Refusal, decode, is_user_place, shape_of};
 use machine::Fault;
 use std::marker::Model;
 use store::Store;
 
-const MARK: u8 = 255;
-
 /// An instruction that was read, its operands in range, and the place after it.
-#[derive(Clone, Copy)]
+#[derive(Clone, Copy, Debug, PartialEq, Eq)]
 pub struct Reading {
     pub instruction: Instruction<u16>,
     pub after: u16,

@@ -3,7 +3,7 @@
 ghost use Rattle.std.specs.Prelude.{◌≡◌};
 ghost use Rattle.isa.specs.TwosComplement.{half24};
 ghost use Rattle.machine.specs.Bodies.{shifted, limit_on, motion_part};
-ghost use Rattle.axis.specs.Models.{refusal_of};
+ghost use Rattle.std.specs.Result.{result_err};
 
 use crate::body::Body;
 use crate::motion::Motion;
@@ -45,7 +45,7 @@ fn limit_on(input: u8, direction: Direction) -> bool
 impl Body {
     /// The motion part of a tick; refused where a limit or the port ended the motion, and with it any run.
     pub(crate) fn advance<P: StepPort>(&mut self, port: &mut P, input: u8) -> Result<(), Refusal>
-        ensures ends { refusal_of result ≡ (motion_part input self.old (P.meaning port.old)).ends }
+        ensures ends { result_err result ≡ (motion_part input self.old (P.meaning port.old)).ends }
         ensures body { self.new ≡ (motion_part input self.old (P.meaning port.old)).body }
         ensures port { P.meaning port.new ≡ (motion_part input self.old (P.meaning port.old)).port }
     {

@@ -1,9 +1,9 @@
 //! What an axis is apart from its runs, its messages, its store and its port.
 
-ghost use Rattle.std.specs.Prelude.{◌≡◌, ◌<◌, true, is_some};
+ghost use Rattle.std.specs.Prelude.{◌≡◌, ◌<◌, ◌≤◌, true, is_some};
 ghost use Rattle.isa.specs.Codes.{in_range};
 ghost use Rattle.isa.specs.declared.instruction.Instruction.TheVariants.{Act};
-ghost use Rattle.machine.specs.Effects.{carried_out, indexed, toward};
+ghost use Rattle.machine.specs.Effects.{carried_out, indexed, is_low, toward};
 ghost use Rattle.axis.specs.Models.{answered};
 
 use crate::motion::Motion;
@@ -38,6 +38,15 @@ impl Body {
         ensures { result ≡ is_some self.now.moving }
     {
         self.motion.is_some()
+    }
+
+    /// Whether a port reads low, by its bit of the input or of the outputs.
+    pub(crate) fn reads_low(&self, port: u8, input: u8) -> bool
+        requires { (1 ≤ port) × (port ≤ 6) }
+        ensures { result ≡ is_low port input self.now.outputs }
+    {
+        let bit = 1u8 << (port - 1);
+        input & bit != 0 || self.outputs & bit != 0
     }
 
     /// An index of so many steps, unless something moves.

@@ -3,14 +3,14 @@
 ghost use Rattle.std.specs.Prelude.{◌≡◌};
 ghost use Rattle.machine.specs.Machines.{escape_m, or_done, soft_stop_m, start_m};
 ghost use Rattle.machine.specs.Stores.{store_reader};
-ghost use Rattle.axis.specs.Models.{model, refusal_of};
+ghost use Rattle.store.specs.Memories.{Memory};
+ghost use Rattle.std.specs.Result.{result_err};
 
-use crate::axis::Axis;
 use crate::motion::Motion;
+use crate::state::State;
 use isa::{Refusal, is_user_place};
 use machine::{Answer, Ending, Run};
 use port::StepPort;
-use store::Store;
 
 const LINE_FEED: u8 = 10;
 
@@ -26,12 +26,11 @@ fn or_done(answer: Answer) -> Answer
     }
 }
 
-impl<S: Store, P: StepPort> Axis<S, P> {
-    /// Starts a run at a place: 12, 8.
+impl<P: StepPort> State<P> {
+    /// Starts a run at a place, whatever the store holds: 12, 8.
     pub(crate) fn begin_run(&mut self, place: u16) -> Result<(), Refusal>
-        ensures answer { refusal_of result ≡ (start_m (store_reader (S.memory self.old.store)) place (model P.meaning self.old)).reply.refusal }
-        ensures after { model P.meaning self.new ≡ (start_m (store_reader (S.memory self.old.store)) place (model P.meaning self.old)).state }
-        ensures store { self.new.store ≡ self.old.store }
+        ensures answer { (m : Memory) → result_err result ≡ (start_m (store_reader m) place self.old).reply.refusal }
+        ensures after { (m : Memory) → self.new ≡ (start_m (store_reader m) place self.old).state }
     {
         if self.run.is_going() || self.body.is_moving() {
             return Err(Refusal::Busy);
@@ -45,8 +44,7 @@ impl<S: Store, P: StepPort> Axis<S, P> {
 
     /// ESC: ends motion and run.
     fn escape(&mut self)
-        ensures after { model P.meaning self.new ≡ (escape_m (model P.meaning self.old)).state }
-        ensures store { self.new.store ≡ self.old.store }
+        ensures after { self.new ≡ (escape_m self.old).state }
     {
         self.receiver.cut_off();
         self.body.motion = None;
@@ -55,8 +53,7 @@ impl<S: Store, P: StepPort> Axis<S, P> {
 
     /// `@`: ends a run and slows a motion.
     fn soft_stop(&mut self)
-        ensures after { model P.meaning self.new ≡ (soft_stop_m (model P.meaning self.old)).state }
-        ensures store { self.new.store ≡ self.old.store }
+        ensures after { self.new ≡ (soft_stop_m self.old).state }
     {
         self.body.motion = self.body.motion.map(Motion::slow_down);
         self.run.end(Ending::Stopped);

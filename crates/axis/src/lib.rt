@@ -10,3 +10,4 @@ mod hear;
 mod motion;
 mod run;
 mod settings;
+mod state;

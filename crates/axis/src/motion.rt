@@ -1,6 +1,6 @@
 //! An index on its way, and what a step does to it.
 
-ghost use Rattle.std.specs.Prelude.{◌≡◌, ◌*◌, ◌<◌, ◌≤◌};
+ghost use Rattle.std.specs.Prelude.{◌≡◌, ◌-◌, ◌<◌, ◌≤◌};
 ghost use Rattle.machine.specs.Setups.{start_speed};
 ghost use Rattle.machine.specs.Motions.{begun, due, next_speed, after_step, slowing};
 
@@ -12,7 +12,7 @@ use std::marker::Model;
 const FULL_SPEED: u32 = 25_000;
 
 /// A motion. It keeps the settings that it began with.
-#[derive(Clone, Copy)]
+#[derive(Clone, Copy, Debug, PartialEq, Eq)]
 pub(crate) struct Motion {
     pub(crate) direction: Direction,
     /// Steps to go.
@@ -80,30 +80,30 @@ impl Motion {
         requires { sum < due self }
         ensures { result ≡ after_step sum self }
     {
-        let left = self.left - 1;
-        if left == 0 {
+        if self.left == 1 {
             return None;
         }
         let loss = u16::from(self.settings.loss);
         let speed = if !self.slowed {
-            self.next_speed(left)
+            self.next_speed()
         } else if self.speed < self.settings.start_speed() + loss {
             return None;
         } else {
             self.speed - loss
         };
         Some(Motion {
-            left,
+            left: self.left - 1,
             speed,
             sum,
             ..self
         })
     }
 
-    /// The speed after a step that leaves `left`.
-    fn next_speed(self, left: u32) -> u16
-        requires { (0 < left) × (left < 16777216) }
-        ensures value { result ≡ next_speed left self }
+    /// The speed after a step that is not the last: it falls where the rest of the way is just enough to come down to the
+    /// start, and else rises.
+    fn next_speed(self) -> u16
+        requires { 1 < self.left }
+        ensures value { result ≡ next_speed (self.left - 1) self }
         ensures slow { start_speed self.setup ≤ result }
         ensures fast { result ≤ self.setup.slew }
     {
@@ -114,7 +114,7 @@ impl Motion {
             ..
         } = self.settings;
         let above = self.speed - self.settings.start_speed();
-        if u32::from(loss) * left <= u32::from(above) {
+        if u32::from(loss) * (self.left - 1) <= u32::from(above) {
             self.speed - u16::from(loss)
         } else {
             slew.min(self.speed + u16::from(gain))

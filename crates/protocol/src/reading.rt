@@ -24,7 +24,7 @@ pub fn read_message(bytes: &[u8]) -> Result<Message, Refusal>
     ensures value { result ≡ message_of bytes.now }
     ensures fits { FitsRead result }
 {
-    if first_bad(bytes) != 0 {
+    if first_bad(bytes).is_some() {
         return Err(Refusal::Character);
     }
     let mut scan = Scanner::new(0, bytes);

@@ -8,7 +8,7 @@ use isa::Refusal;
 use store::StoreFault;
 
 /// Why an instruction could not be read or carried out: a refusal of the run's own, or the store's with its page.
-#[derive(Clone, Copy)]
+#[derive(Clone, Copy, Debug, PartialEq, Eq)]
 pub enum Fault {
     Own(Refusal),
     Store(StoreFault),
@@ -31,7 +31,7 @@ impl From<Refusal> for Fault {
 }
 
 /// How the latest run ended.
-#[derive(Clone, Copy)]
+#[derive(Clone, Copy, Debug, PartialEq, Eq)]
 pub enum Ending<T> {
     /// There was no run yet.
     Never,
@@ -44,7 +44,7 @@ pub enum Ending<T> {
 }
 
 /// A run; its points are places for an axis.
-#[derive(Clone, Copy)]
+#[derive(Clone, Copy, Debug, PartialEq, Eq)]
 pub struct Run<T> {
     /// Where the next instruction stands.
     pub next: T,

@@ -103,15 +103,7 @@ waited n b c (Some k) = waited_for (k - 1) b c
 
 abbrev pub wait_of : Action → Option ℕ
 wait_of (Wait n) = Some n
-wait_of (Outputs n) = None
-wait_of (Divisor n) = None
-wait_of (InitialSpeed n) = None
-wait_of (SlewSpeed n) = None
-wait_of (Rates a d) = None
-wait_of (Origin z) = None
-wait_of (IndexTo z) = None
-wait_of Report = None
-wait_of (Index d n) = None
+wait_of _ = None
 
 abbrev pub act_effect : Option ℕ → Action → Body → Option ℕ → Option ℕ → Effect
 act_effect (Some n) a b c w = waited n b c w

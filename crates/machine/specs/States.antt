@@ -64,12 +64,8 @@ module _ {X Y : Type 0} (f : X → Y) where
   map_fetched (Err e) = Err e
 
 abbrev pub is_going : {X : Type 0} → Ending X → Bool
-is_going Never = false
 is_going Running = true
-is_going AtMark = false
-is_going Escaped = false
-is_going Stopped = false
-is_going (Failed e x) = false
+is_going _ = false
 
 -- a run that has just been started at a point
 abbrev pub started_run : {X : Type 0} → X → Run X

@@ -1,5 +1,5 @@
 -- Every message that is read fits.
-use Rattle.std.proofs.Common.{◌≡◌, ℕ, Bool, true, false, cond, eqb, List, [], ◌∷◌, ℤ, Some, None, Ok, Err, Option, Result, sym, refl, ap, ◌∙◌, arith}
+use Rattle.std.proofs.Common.{◌≡◌, ℕ, Bool, true, false, cond, eqb, List, [], ◌∷◌, ℤ, Some, None, IsNone, Ok, Err, IfOk, Option, Result, sym, refl, ap, ◌∙◌, arith}
 use Rattle.isa.specs.declared.refusal.Refusal.{Refusal}
 use Rattle.isa.specs.declared.refusal.Refusal.TheVariants.{Letter}
 use Rattle.isa.specs.declared.shape.Shape.{Shape}
@@ -20,7 +20,11 @@ use Rattle.sequence.specs.Lines.{Operand, number, named, Pair, pair_of, value_of
 use Rattle.sequence.specs.Lines as Lines
 use Rattle.machine.specs.declared.message.Message.{Message}
 use Rattle.machine.specs.Messages.{soft_stop_letter, barred, asked, asked_by, soft_stop, bare, lettered, worded}
-use Rattle.protocol.specs.Fits.{NoWait, FitsRead}
+use Rattle.machine.specs.Effects.{wait_of}
+use Rattle.protocol.specs.Fits.{Fits}
+
+abbrev pub FitsRead : Result Message Refusal → Type 0
+FitsRead r = IfOk r Fits
 
 -- what the table gives has the letter that was asked for
 entry_letter : (x y : ℤ) (l : ℕ) (e : Entry) → entry l (operands x y) ≡ Ok e → letter_of e.instruction ≡ l
@@ -30,17 +34,17 @@ entry_letter x y =
     (λ e h. grind arith) (λ e h. grind arith) (λ e h. grind arith) (λ e h. grind arith) (λ e h. cc) (λ e h. grind arith) (λ e h. grind arith)
     (λ l n e h. let z : Err UnknownLetter ≡ Ok e = sym (n x y) ∙ h in cc)
 
-no_wait : (a : Action) → (letter_of {X = ℕ} (Act a) ≡ 87 → ⊥) → NoWait a
-no_wait (Outputs n) h = tt
-no_wait (Divisor n) h = tt
-no_wait (InitialSpeed n) h = tt
-no_wait (SlewSpeed n) h = tt
-no_wait (Rates a d) h = tt
-no_wait (Origin z) h = tt
-no_wait (IndexTo z) h = tt
-no_wait (Wait n) h = h refl
-no_wait Report h = tt
-no_wait (Index d n) h = tt
+no_wait : (a : Action) → (letter_of {X = ℕ} (Act a) ≡ 87 → ⊥) → IsNone (wait_of a)
+no_wait (Outputs n) h = refl
+no_wait (Divisor n) h = refl
+no_wait (InitialSpeed n) h = refl
+no_wait (SlewSpeed n) h = refl
+no_wait (Rates a d) h = refl
+no_wait (Origin z) h = refl
+no_wait (IndexTo z) h = refl
+no_wait (Wait n) h = absurd (h refl)
+no_wait Report h = refl
+no_wait (Index d n) h = refl
 
 asked_fits : (o : Operand) (i : Instruction ℕ) → in_range i ≡ true → (letter_of i ≡ 87 → ⊥) → FitsRead (asked (aimed_at o i))
 asked_fits (number z) (Go p) r n = target_low (Go p) r p refl

@@ -1,9 +1,9 @@
 //! What the bytes of a message ask.
 
-ghost use Rattle.std.specs.Prelude.{◌≡◌, ◌∷◌};
+ghost use Rattle.std.specs.Prelude.{◌≡◌, ◌∷◌, IfOk};
 ghost use Rattle.token.specs.Spots.{left, token_of};
 ghost use Rattle.machine.specs.Messages.{message_of, worded, soft_stop, asked, asked_by};
-ghost use Rattle.protocol.specs.Fits.{FitsRead};
+ghost use Rattle.protocol.specs.Fits.{Fits};
 
 use isa::{Instruction, Refusal};
 use machine::Message;
@@ -22,7 +22,7 @@ const BARE: Front = Front {
 #[tactic(auto, unfolding(machine::specs::Messages::message_of))]
 pub fn read_message(bytes: &[u8]) -> Result<Message, Refusal>
     ensures value { result ≡ message_of bytes.now }
-    ensures fits { FitsRead result }
+    ensures fits { IfOk result Fits }
 {
     if first_bad(bytes).is_some() {
         return Err(Refusal::Character);

@@ -1,6 +1,6 @@
 //! What an axis has heard since the last line feed.
 
-ghost use Rattle.std.specs.Prelude.{◌≡◌};
+ghost use Rattle.std.specs.Prelude.{◌≡◌, IfOk, IfSome};
 ghost use Rattle.machine.specs.Receivers.{deaf, awaiting, echoed, hears_plain};
 ghost use Rattle.machine.specs.Messages.{message_in};
 ghost use Rattle.protocol.specs.Fits.{Fits};
@@ -82,7 +82,7 @@ impl Receiver {
     pub fn end_line(&mut self) -> Option<Result<Message, Refusal>>
         ensures message { result ≡ message_in self.old }
         ensures after { self.new ≡ awaiting }
-        ensures fits { Fits result }
+        ensures fits { IfSome result (λ read. IfOk read Fits) }
     {
         match mem::replace(&mut self.heard, Heard::Awaiting) {
             Heard::Deaf | Heard::Awaiting => None,

@@ -1,7 +1,6 @@
 use Rattle.std.proofs.Common.{sym, subst, ◌∷◌}
 use Rattle.token.specs.Spots.{left, token_of}
-use Rattle.protocol.specs.Fits.{FitsRead}
-use Rattle.protocol.proofs.Asking.{worded_fits}
+use Rattle.protocol.proofs.Asking.{FitsRead, worded_fits}
 use Rattle.protocol.proofs.reading.read_message.Goals as goal
 
 pub returns-clause-fits : goal.returns-clause-fits

@@ -3,13 +3,11 @@
 
 #![tactic(auto)]
 
-mod act;
 mod advance;
 mod axis;
 mod body;
 mod hear;
 mod motion;
-mod perform;
-mod ramp;
 mod run;
 mod settings;
+mod state;

@@ -1,103 +1,111 @@
-//! Runs: their start, their instructions, their end.
+//! Runs: their instructions and their end.
 
-ghost use Rattle.std.specs.Prelude.{◌≡◌, if◌then◌else◌};
-ghost use Rattle.machine.specs.States.{is_going};
-ghost use Rattle.machine.specs.Machines.{goes_on, instruction_m, run_m, tick_m};
-ghost use Rattle.machine.specs.Stores.{fetched, store_reader};
-ghost use Rattle.axis.specs.Models.{model, attempted, tried};
+ghost use Rattle.std.specs.Prelude.{◌≡◌, true, Some, Ok, if◌then◌else◌};
+ghost use Rattle.isa.specs.Codes.{in_range};
+ghost use Rattle.machine.specs.Machines.{instruction_m, run_m, tick_m};
+ghost use Rattle.machine.specs.Stores.{store_reader};
+ghost use Rattle.axis.specs.Models.{effect_on, with_effect};
 
-use crate::advance::advance;
-use crate::axis::Axis;
-use crate::perform::perform;
-use fetch::fetch;
-use isa::Instruction;
-use machine::{Answer, Course, Ending, Fault, Reading, Run};
+use crate::state::State;
+use fetch::{Reading, fetch};
+use isa::{Action, Instruction};
+use machine::{Answer, Course, Ending, Fault};
 use port::StepPort;
 use store::Store;
 
-pub(crate) fn is_going(run: &Run<u16>) -> bool
-    ensures { result ≡ is_going run.now.ending }
+/// Ticks in a hundredth of a second.
+const TICKS: u32 = 250;
+
+fn jumps_if(met: bool) -> Course
+    ensures { result ≡ (if met then Course.Jumps else Course.Onward) }
 {
-    match run.ending {
-        Ending::Running => true,
-        _ => false,
-    }
+    if met { Course::Jumps } else { Course::Onward }
 }
 
-/// Ends a run that is going; no other ending changes.
-pub(crate) fn end(run: &mut Run<u16>, ending: Ending<u16>)
-    ensures { run.new ≡ record { next = run.old.next; counter = run.old.counter; wait = run.old.wait; ending = (if is_going run.old.ending then ending else run.old.ending) } }
-{
-    if is_going(run) {
-        run.ending = ending;
-    }
-}
-
-/// Where a run goes on.
-fn next_place(course: Course, here: u16, after: u16, instruction: Instruction<u16>) -> u16
-    ensures { result ≡ goes_on course here after instruction }
-{
-    match course {
-        Course::Onward => after,
-        Course::Stays => here,
-        Course::Jumps => match instruction {
-            Instruction::Go(target) => target,
-            Instruction::Jump { target, .. } => target,
-            Instruction::JumpLow { target, .. } => target,
-            Instruction::Act(_) => after,
-        },
-    }
-}
-
-impl<S: Store, P: StepPort> Axis<S, P> {
-    /// The next instruction, carried out. A fault in reading it leaves the axis as it was.
-    fn instruction(&mut self, input: u8) -> Result<Answer, Fault>
-        ensures answer { result ≡ tried (instruction_m input (model P.meaning self.old) (fetched (S.memory self.old.store) self.old.run.next)) (fetched (S.memory self.old.store) self.old.run.next) }
-        ensures after { model P.meaning self.new ≡ attempted input (model P.meaning self.old) (fetched (S.memory self.old.store) self.old.run.next) }
-        ensures store { self.new.store ≡ self.old.store }
+impl<P: StepPort> State<P> {
+    /// Carries an instruction out; where the run goes on is the caller's.
+    fn carry_out(&mut self, instruction: Instruction<u16>, input: u8) -> (Course, Answer)
+        requires { in_range instruction ≡ true }
+        ensures course { result.0 ≡ (effect_on input self.old instruction).course }
+        ensures answer { result.1 ≡ (effect_on input self.old instruction).answer }
+        ensures after { self.new ≡ with_effect (effect_on input self.old instruction) self.old }
     {
-        let here = self.run.next;
-        match fetch(&self.store, here)? {
-            Reading::Mark => {
-                self.run.ending = Ending::AtMark;
-                Ok(Answer::Silence)
+        let waiting = self.run.wait.take();
+        match instruction {
+            Instruction::Go(_) => (Course::Jumps, Answer::Silence),
+            Instruction::Jump { times, .. } => {
+                self.run.counter = match self.run.counter {
+                    None => Some(times),
+                    Some(left) => left.checked_sub(1),
+                };
+                (jumps_if(self.run.counter.is_some()), Answer::Silence)
             }
-            Reading::Instruction(instruction, after) => {
-                let performed = perform(&mut self.body, &mut self.run, instruction, input);
-                self.run.next = next_place(performed.course, here, after, instruction);
-                Ok(performed.answer)
+            Instruction::JumpLow { port, .. } => (
+                jumps_if(self.body.reads_low(port, input)),
+                Answer::Silence,
+            ),
+            Instruction::Act(Action::Wait(hundredths)) => {
+                let left = match waiting {
+                    Some(left) => left.saturating_sub(1),
+                    None if self.body.is_moving() => return (Course::Stays, Answer::Silence),
+                    None => TICKS * u32::from(hundredths),
+                };
+                if left == 0 {
+                    return (Course::Onward, Answer::Silence);
+                }
+                self.run.wait = Some(left);
+                (Course::Stays, Answer::Silence)
+            }
+            Instruction::Act(action) => {
+                let answer = match self.body.carry_out(action) {
+                    Ok(answer) => answer,
+                    Err(_) => return (Course::Stays, Answer::Silence),
+                };
+                (Course::Onward, answer)
             }
         }
+    }
+
+    /// Carries out what was read, and goes on where it leads.
+    fn perform(&mut self, reading: Reading, input: u8) -> Answer
+        ensures answer { result ≡ (instruction_m input self.old (Ok (Some reading))).reply.answer }
+        ensures after { self.new ≡ (instruction_m input self.old (Ok (Some reading))).state }
+    {
+        let Reading { instruction, after } = reading;
+        let (course, answer) = self.carry_out(instruction, input);
+        match course {
+            Course::Onward => self.run.next = after,
+            Course::Stays => {}
+            Course::Jumps => self.run.next = instruction.target().unwrap_or(after),
+        }
+        answer
     }
 
     /// The instruction part of a tick.
-    fn advance_run(&mut self, input: u8) -> Answer
-        ensures answer { result ≡ (run_m (store_reader (S.memory self.old.store)) input (model P.meaning self.old)).reply.answer }
-        ensures after { model P.meaning self.new ≡ (run_m (store_reader (S.memory self.old.store)) input (model P.meaning self.old)).state }
-        ensures store { self.new.store ≡ self.old.store }
+    fn advance_run<S: Store>(&mut self, store: &S, input: u8) -> Answer
+        ensures answer { result ≡ (run_m (store_reader (S.memory store.now)) input self.old).reply.answer }
+        ensures after { self.new ≡ (run_m (store_reader (S.memory store.now)) input self.old).state }
     {
-        if !is_going(&self.run) {
+        if !self.run.is_going() {
             return Answer::Silence;
         }
-        match self.instruction(input) {
-            Ok(answer) => answer,
-            Err(fault) => {
-                self.run.ending = Ending::Failed(fault, self.run.next);
-                Answer::Silence
-            }
+        match fetch(store, self.run.next) {
+            Ok(Some(reading)) => return self.perform(reading, input),
+            Ok(None) => self.run.ending = Ending::AtMark,
+            Err(fault) => self.run.ending = Ending::Failed(fault, self.run.next),
         }
+        Answer::Silence
     }
 
     /// A tick: first the motion, then, if a run is going, one instruction.
-    pub(crate) fn clock(&mut self, input: u8) -> Answer
-        ensures answer { result ≡ (tick_m (store_reader (S.memory self.old.store)) input (model P.meaning self.old)).reply.answer }
-        ensures after { model P.meaning self.new ≡ (tick_m (store_reader (S.memory self.old.store)) input (model P.meaning self.old)).state }
-        ensures store { self.new.store ≡ self.old.store }
+    pub(crate) fn clock<S: Store>(&mut self, store: &S, input: u8) -> Answer
+        ensures answer { result ≡ (tick_m (store_reader (S.memory store.now)) input self.old).reply.answer }
+        ensures after { self.new ≡ (tick_m (store_reader (S.memory store.now)) input self.old).state }
     {
-        if let Err(refusal) = advance(&mut self.body, &mut self.port, input) {
+        if let Err(refusal) = self.body.advance(&mut self.port, input) {
             let here = self.run.next;
-            end(&mut self.run, Ending::Failed(Fault::Own(refusal), here));
+            self.run.end(Ending::Failed(Fault::Own(refusal), here));
         }
-        self.advance_run(input)
+        self.advance_run(store, input)
     }
 }

@@ -3,54 +3,61 @@
 #![tactic(auto)]
 
 ghost use Rattle.std.specs.Prelude.{◌≡◌, ◌+◌, ◌<◌, true};
-ghost use Rattle.isa.specs.Checks.{and_then};
 ghost use Rattle.isa.specs.Places.{user};
 ghost use Rattle.isa.specs.Table.{shape_of};
-ghost use Rattle.machine.specs.Stores.{byte_at, operand_byte, operands_at, shaped, lettered, fetched};
-ghost use Rattle.fetch.specs.Readings.{InRange};
+ghost use Rattle.machine.specs.Stores.{operand_byte, operands_at, shaped, fetched};
 
-use isa::{Refusal, decode, is_user_place, shape_of};
-use machine::{Fault, Reading};
+use isa::{Instruction, MARK, Refusal, decode, is_user_place, shape_of};
+use machine::Fault;
+use std::marker::Model;
 use store::Store;
 
-const MARK: u8 = 255;
-
-/// What stands at a place. Every byte is asked of the store, whose fault goes up with its page.
-pub fn fetch<S: Store>(store: &S, place: u16) -> Result<Reading<u16>, Fault>
-    ensures value { result ≡ fetched (S.memory store.now) place }
-    ensures range { InRange result }
-{
-    if !is_user_place(place) {
-        return Err(Fault::Own(Refusal::Area));
-    }
-    read_first(store, place)
+/// An instruction that was read, its operands in range, and the place after it.
+#[derive(Clone, Copy, Debug, PartialEq, Eq)]
+pub struct Reading {
+    pub instruction: Instruction<u16>,
+    pub after: u16,
 }
 
-/// The byte at a user place, and what follows from it.
-fn read_first<S: Store>(store: &S, place: u16) -> Result<Reading<u16>, Fault>
-    requires { user place ≡ true }
-    ensures value { result ≡ and_then (byte_at (S.memory store.now) place) (lettered (S.memory store.now) place) }
-    ensures range { InRange result }
+impl Model for Reading {
+    ghost use Rattle.std.specs.Prelude.{◌≡◌, ℕ, true};
+    ghost use Rattle.isa.specs.Codes.{in_range};
+    ghost use Rattle.machine.specs.States.{Reading as ReadingAt};
+
+    ghost Value = { ReadingAt ℕ };
+
+    ghost view = { λ r. record { instruction = r.instruction; after = r.after } };
+
+    ghost invariant = { λ r. in_range r.instruction ≡ true };
+
+    ghost inverse = { λ r. record { instruction = r.instruction; after = r.after } };
+}
+
+/// What stands at a place: an instruction, or the end mark and nothing more. Every byte is asked of the store, whose fault
+/// goes up with its page.
+#[tactic(auto, unfolding(machine::specs::Stores::fetched))]
+pub fn fetch<S: Store>(store: &S, place: u16) -> Result<Option<Reading>, Fault>
+    ensures { result ≡ fetched (S.memory store.now) place }
 {
+    if !is_user_place(place) {
+        return Err(Refusal::Area.into());
+    }
     let letter = store.read(place)?;
     if letter == MARK {
-        return Ok(Reading::Mark);
+        return Ok(None);
     }
     read_lettered(store, place, letter)
 }
 
 /// The instruction that begins with this byte, all of it in user places.
-fn read_lettered<S: Store>(store: &S, place: u16, letter: u8) -> Result<Reading<u16>, Fault>
+fn read_lettered<S: Store>(store: &S, place: u16, letter: u8) -> Result<Option<Reading>, Fault>
     requires { user place ≡ true }
-    ensures value { result ≡ shaped (S.memory store.now) place letter (shape_of letter) }
-    ensures range { InRange result }
+    ensures { result ≡ shaped (S.memory store.now) place letter (shape_of letter) }
 {
-    let Some(shape) = shape_of(letter as char) else {
-        return Err(Fault::Own(Refusal::Code));
-    };
+    let shape = shape_of(letter as char).ok_or(Refusal::Code)?;
     let width = shape.width() as u16;
     if !is_user_place(place + (width - 1)) {
-        return Err(Fault::Own(Refusal::Area));
+        return Err(Refusal::Area.into());
     }
     read_operands(store, place, letter, width)
 }
@@ -61,16 +68,18 @@ fn read_operands<S: Store>(
     place: u16,
     letter: u8,
     width: u16,
-) -> Result<Reading<u16>, Fault>
+) -> Result<Option<Reading>, Fault>
     requires { (place < 2048) × (width < 5) }
-    ensures value { result ≡ operands_at (S.memory store.now) place letter width }
-    ensures range { InRange result }
+    ensures { result ≡ operands_at (S.memory store.now) place letter width }
 {
     let low = operand_byte(store, place, width, 1)?;
     let middle = operand_byte(store, place, width, 2)?;
     let high = operand_byte(store, place, width, 3)?;
     let instruction = decode([letter, low, middle, high])?;
-    Ok(Reading::Instruction(instruction, place + width))
+    Ok(Some(Reading {
+        instruction,
+        after: place + width,
+    }))
 }
 
 /// A byte after the letter, or 0 past the instruction's last.

@@ -7,29 +7,17 @@ use Rattle.isa.specs.declared.instruction.Direction.TheVariants.{Plus, Minus}
 use Rattle.isa.specs.TwosComplement.{half24}
 use Rattle.port.specs.Steps.{Room, unlimited, upto, Meaning, stepped}
 use Rattle.machine.specs.Setups.{Setup, fresh_setup}
-use Rattle.machine.specs.Motions.{Motion, Moving, still, moves, due, gathered, with_sum, after_step}
+use Rattle.machine.specs.Motions.{Motion, due, gathered, after_step}
 
 pub record Body : Type 0 where
   pub name : ℕ
   pub setup : Setup
   pub position : ℤ
   pub outputs : ℕ
-  pub moving : Moving
-
-abbrev pub with_setup : Setup → Body → Body
-with_setup u b = record { name = b.name; setup = u; position = b.position; outputs = b.outputs; moving = b.moving }
-
-abbrev pub with_position : ℤ → Body → Body
-with_position z b = record { name = b.name; setup = b.setup; position = z; outputs = b.outputs; moving = b.moving }
-
-abbrev pub with_outputs : ℕ → Body → Body
-with_outputs n b = record { name = b.name; setup = b.setup; position = b.position; outputs = n; moving = b.moving }
-
-abbrev pub with_moving : Moving → Body → Body
-with_moving m b = record { name = b.name; setup = b.setup; position = b.position; outputs = b.outputs; moving = m }
+  pub moving : Option Motion  -- what moves, unless it stands still
 
 abbrev pub fresh_body : ℕ → Body
-fresh_body name = record { name = name; setup = fresh_setup; position = pos 0; outputs = 0; moving = still }
+fresh_body name = record { name = name; setup = fresh_setup; position = pos 0; outputs = 0; moving = None }
 
 -- a position moved by one, from one end of -half to half - 1 to the other
 abbrev pub shifted : ℕ → Direction → ℤ → ℤ
@@ -51,14 +39,14 @@ pub record Moved : Type 0 where
   pub ends : Option Refusal
 
 abbrev pub halted : Refusal → Body → Meaning → Moved
-halted r b q = record { body = with_moving still b; port = q; ends = Some r }
+halted r b q = record { body = record b { moving = None }; port = q; ends = Some r }
 
 abbrev pub went : Body → Meaning → Moved
 went b q = record { body = b; port = q; ends = None }
 
 -- a step that the port took
 abbrev pub step_taken : ℕ → Motion → Body → Body
-step_taken sum m b = record { name = b.name; setup = b.setup; position = shifted half24 m.direction b.position; outputs = b.outputs; moving = after_step sum m }
+step_taken sum m b = record b { position = shifted half24 m.direction b.position; moving = after_step sum m }
 
 -- no step more
 abbrev pub is_full : Room → Bool
@@ -71,11 +59,11 @@ stepping sum m b q = cond (is_full q.room) (halted Full b q) (went (step_taken s
 
 -- The motion part of a tick: the limit of its direction ends it; else its speed is added to its sum, and at the sum that is due
 -- the port gets one step.
-abbrev pub advanced : ℕ → Moving → Body → Meaning → Moved
-advanced input still b q = went b q
-advanced input (moves m) b q =
+abbrev pub advanced : ℕ → Option Motion → Body → Meaning → Moved
+advanced input None b q = went b q
+advanced input (Some m) b q =
     cond (limit_on input m.direction) (halted Limit b q)
-    (cond (nat_le (due m) (gathered m)) (stepping (gathered m - due m) m b q) (went (with_moving (moves (with_sum (gathered m) m)) b) q))
+    (cond (nat_le (due m) (gathered m)) (stepping (gathered m - due m) m b q) (went (record b { moving = Some (record m { sum = gathered m }) }) q))
 
 abbrev pub motion_part : ℕ → Body → Meaning → Moved
 motion_part input b q = advanced input b.moving b q

@@ -1,6 +1,6 @@
 -- The machine: a start, a received byte, a tick, and any list of them, for any points and any source of instructions. With places
 -- and the source that reads a store it is the axis; with lines and the source that reads a text it is the text read line by line.
-use Rattle.std.specs.Prelude.{ℕ, cond, List, [], ◌∷◌, ℤ, Some, None, Ok, Err, Option, Result, ◌==◌, nat_lt}
+use Rattle.std.specs.Prelude.{ℕ, cond, List, [], ◌∷◌, ℤ, Some, None, Ok, Err, Option, Result, is_some, ◌==◌, nat_lt}
 use Rattle.isa.specs.declared.refusal.Refusal.{Refusal}
 use Rattle.isa.specs.declared.refusal.Refusal.TheVariants.{Size, Area, Busy}
 use Rattle.isa.specs.declared.instruction.Instruction.{Instruction}
@@ -13,20 +13,17 @@ use Rattle.machine.specs.declared.call.Call.TheVariants.{Start, Receive, Tick}
 use Rattle.machine.specs.declared.message.Message.{Message}
 use Rattle.machine.specs.declared.message.Message.TheVariants.{SoftStop, Go, Act}
 use Rattle.machine.specs.declared.run.Fault.TheVariants.{Own}
-use Rattle.machine.specs.declared.run.Reading.TheVariants.{Instruction as instruction, Mark as mark}
-use Rattle.machine.specs.declared.run.Counter.TheVariants.{Empty}
-use Rattle.machine.specs.declared.run.Wait.TheVariants.{Nothing}
 use Rattle.machine.specs.declared.run.Course.{Course}
 use Rattle.machine.specs.declared.run.Course.TheVariants.{Onward, Stays, Jumps}
 use Rattle.machine.specs.declared.run.Ending.{Ending}
-use Rattle.machine.specs.declared.run.Ending.TheVariants.{Running, AtMark, Escaped, Stopped, Failed}
-use Rattle.machine.specs.Motions.{is_moving, still, slowed_down}
-use Rattle.machine.specs.Bodies.{with_moving, Moved, motion_part}
+use Rattle.machine.specs.declared.run.Ending.TheVariants.{AtMark, Escaped, Stopped, Failed}
+use Rattle.machine.specs.Motions.{slowed_down}
+use Rattle.machine.specs.Bodies.{Moved, motion_part}
 use Rattle.machine.specs.Answers.{bytes_of}
 use Rattle.machine.specs.Effects.{Event, nothing, soft_stopped, escaped, started_at, Acted, carried_out, Effect, effect}
 use Rattle.machine.specs.Receivers.{LF, ESC, deaf, awaiting, hears_plain, echoed}
 use Rattle.machine.specs.Messages.{message_in}
-use Rattle.machine.specs.States.{State, Fetched, Reader, target_or, map_ending, is_going, with_ending, with_body, with_receiver, end_run}
+use Rattle.machine.specs.States.{State, Fetched, Reader, target_or, map_ending, is_going, started_run, with_ending, end_run}
 
 -- what a call answers: its refusal, if it is refused, else an answer and what was carried out
 pub record Reply : Type 0 where
@@ -78,18 +75,18 @@ module _ {X : Type 0} where
 
   -- a run has just been started here
   abbrev pub started : X → State X → State X
-  started x s = record { body = s.body; port = s.port; receiver = s.receiver; run = record { next = x; counter = Empty; wait = Nothing; ending = Running } }
+  started x s = record s { run = started_run x }
 
   -- one instruction of a run: its effect, and where it leads
   abbrev pub performed : Effect → Instruction X → X → State X → Step X
   performed e i after s =
       replies e.answer e.event
-      record { body = e.body; port = s.port; receiver = s.receiver; run = record { next = goes_on e.course s.run.next after i; counter = e.counter; wait = e.wait; ending = s.run.ending } }
+      (record s { body = e.body; run = record s.run { next = goes_on e.course s.run.next after i; counter = e.counter; wait = e.wait } })
 
   -- the end mark or a fault in reading ends a run, not a motion
   abbrev pub instruction_m : ℕ → State X → Fetched X → Step X
-  instruction_m input s (Ok (instruction i after)) = performed (effect input s.body s.run.counter s.run.wait i) i after s
-  instruction_m input s (Ok mark) = quiet (with_ending AtMark s)
+  instruction_m input s (Ok (Some g)) = performed (effect input s.body s.run.counter s.run.wait g.instruction) g.instruction g.after s
+  instruction_m input s (Ok None) = quiet (with_ending AtMark s)
   instruction_m input s (Err e) = quiet (with_ending (Failed e s.run.next) s)
 
   abbrev pub end_for : Option Refusal → State X → State X
@@ -97,22 +94,22 @@ module _ {X : Type 0} where
   end_for (Some r) s = end_run (Failed (Own r) s.run.next) s
 
   abbrev pub after_motion : Moved → State X → State X
-  after_motion m s = end_for m.ends record { body = m.body; port = m.port; receiver = s.receiver; run = s.run }
+  after_motion m s = end_for m.ends (record s { body = m.body; port = m.port })
 
   -- ESC ends motion and run
   abbrev pub escape_m : State X → Step X
-  escape_m s = replies Silence escaped (end_run Escaped record { body = with_moving still s.body; port = s.port; receiver = deaf; run = s.run })
+  escape_m s = replies Silence escaped (end_run Escaped (record s { body = record s.body { moving = None }; receiver = deaf }))
 
   abbrev pub hear_m : ℕ → State X → Step X
-  hear_m b s = replies (echoed s.body.name b s.receiver) nothing (with_receiver (hears_plain s.body.name b s.receiver) s)
+  hear_m b s = replies (echoed s.body.name b s.receiver) nothing (record s { receiver = hears_plain s.body.name b s.receiver })
 
   -- an action by message, with no run going
   abbrev pub direct_m : Acted → State X → Step X
-  direct_m a s = cond a.busy (answers_refusal Busy s) (replies (or_done a.answer) a.event (with_body a.body s))
+  direct_m a s = cond a.busy (answers_refusal Busy s) (replies (or_done a.answer) a.event (record s { body = a.body }))
 
   -- @ ends a run and slows a motion
   abbrev pub soft_stop_m : State X → Step X
-  soft_stop_m s = replies Done soft_stopped (end_run Stopped (with_body (with_moving (slowed_down s.body.moving) s.body) s))
+  soft_stop_m s = replies Done soft_stopped (end_run Stopped (record s { body = record s.body { moving = slowed_down s.body.moving } }))
 
 module _ {X : Type 0} (reader : Reader X) where
   -- the instruction part of a tick
@@ -127,7 +124,7 @@ module _ {X : Type 0} (reader : Reader X) where
   abbrev pub start_m : ℕ → State X → Step X
   start_m p s =
       cond (is_going s.run.ending) (refused Busy s)
-      (cond (is_moving s.body.moving) (refused Busy s)
+      (cond (is_some s.body.moving) (refused Busy s)
       (cond (user p) (replies Silence (started_at p) (started (reader.at p) s)) (refused Area s)))
 
   -- a message that was read, or why it was not; a run refuses all but @
@@ -136,7 +133,7 @@ module _ {X : Type 0} (reader : Reader X) where
   message_m s (Ok SoftStop) = soft_stop_m s
   message_m s (Ok (Go p)) =
       cond (is_going s.run.ending) (answers_refusal Busy s)
-      (cond (is_moving s.body.moving) (answers_refusal Busy s)
+      (cond (is_some s.body.moving) (answers_refusal Busy s)
       (cond (user p) (replies Done (started_at p) (started (reader.at p) s)) (answers_refusal Area s)))
   message_m s (Ok (Act a)) = cond (is_going s.run.ending) (answers_refusal Busy s) (direct_m (carried_out a s.body) s)
 
@@ -147,7 +144,7 @@ module _ {X : Type 0} (reader : Reader X) where
 
   abbrev pub receive_m : ℕ → State X → Step X
   receive_m b s =
-      cond (b == LF) (line_feed_m (with_receiver awaiting s) (message_in s.receiver))
+      cond (b == LF) (line_feed_m (record s { receiver = awaiting }) (message_in s.receiver))
       (cond (b == ESC) (escape_m s) (hear_m b s))
 
   abbrev pub call_m : State X → Call → Step X

@@ -14,7 +14,6 @@ use Rattle.sequence.specs.declared.text.Line.TheVariants.{Blank, Opens, Holds}
 use Rattle.sequence.specs.Texts.{lines}
 use Rattle.sequence.specs.Placings.{width_of}
 use Rattle.sequence.specs.Layouts.{parsed_all, ends}
-use Rattle.machine.specs.declared.run.Reading.TheVariants.{Instruction as instruction, Mark as mark}
 use Rattle.machine.specs.States.{Fetched, Reader}
 
 -- an instruction line, the place where it falls, and whether it is the last of its stretch
@@ -74,8 +73,8 @@ place_of rs (line k) = (row rs k).place
 place_of rs (mark_after k) = (row rs k).place + width_of (row rs k).source
 
 abbrev pub read_line : List Row → Point → Fetched Point
-read_line rs (line k) = Ok (instruction (retarget (meant rs) (row rs k).source.instruction) (following rs k))
-read_line rs (mark_after k) = Ok mark
+read_line rs (line k) = Ok (Some record { instruction = retarget (meant rs) (row rs k).source.instruction; after = following rs k })
+read_line rs (mark_after k) = Ok None
 
 abbrev pub line_reader : List Row → Reader Point
 line_reader rs = record { read = read_line rs; place = place_of rs; at = λ p. placed_at p 0 rs }

@@ -14,7 +14,6 @@ use Rattle.store.specs.declared.store.StoreFault.{StoreFault}
 use Rattle.store.specs.Memories.{Memory, reading}
 use Rattle.machine.specs.declared.run.Fault.{Fault}
 use Rattle.machine.specs.declared.run.Fault.TheVariants.{Own, Store}
-use Rattle.machine.specs.declared.run.Reading.TheVariants.{Instruction as instruction, Mark as mark}
 use Rattle.machine.specs.States.{Fetched, Reader}
 
 -- a store's fault keeps its page
@@ -30,7 +29,7 @@ abbrev pub operand_byte : Memory → ℕ → ℕ → ℕ → Result ℕ Fault
 operand_byte m p w j = cond (nat_lt j w) (byte_at m (p + j)) (Ok 0)
 
 abbrev pub ranged : ℕ → Result (Instruction ℕ) Refusal → Fetched ℕ
-ranged after (Ok i) = Ok (instruction i after)
+ranged after (Ok i) = Ok (Some record { instruction = i; after = after })
 ranged after (Err r) = Err (Own r)
 
 abbrev pub operands_at : Memory → ℕ → ℕ → ℕ → Fetched ℕ
@@ -45,7 +44,7 @@ shaped m p l None = Err (Own Code)
 shaped m p l (Some h) = cond (all_user (suc p) (width_of h - 1)) (operands_at m p l (width_of h)) (Err (Own Area))
 
 abbrev pub lettered : Memory → ℕ → ℕ → Fetched ℕ
-lettered m p l = cond (l == mark_byte) (Ok mark) (shaped m p l (shape_of l))
+lettered m p l = cond (l == mark_byte) (Ok None) (shaped m p l (shape_of l))
 
 -- An instruction is read as the lister reads it: its first place is a user place, its byte is the mark or a letter, its other
 -- places are user places, its operands are in range. Each byte is asked of the store.

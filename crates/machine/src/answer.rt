@@ -3,7 +3,7 @@
 use isa::Refusal;
 
 /// The answer to a received byte or a tick; `bytes_of` in `specs/` has its bytes.
-#[derive(Clone, Copy)]
+#[derive(Clone, Copy, Debug, PartialEq, Eq)]
 pub enum Answer {
     Silence,
     /// A byte of a message, sent back.

@@ -11,4 +11,4 @@ mod run;
 pub use answer::Answer;
 pub use call::Call;
 pub use message::Message;
-pub use run::{Counter, Course, Ending, Fault, Reading, Run, Wait};
+pub use run::{Course, Ending, Fault, Run};

@@ -3,7 +3,7 @@
 use isa::Action;
 
 /// A message that was read; `Action::Wait` is none.
-#[derive(Clone, Copy)]
+#[derive(Clone, Copy, Debug, PartialEq, Eq)]
 pub enum Message {
     /// `@`: ends a run and slows a motion.
     SoftStop,

@@ -2,12 +2,13 @@
 
 ghost use Rattle.std.specs.Prelude.{◌≡◌};
 ghost use Rattle.machine.specs.declared.run.Fault.TheVariants.{Own, Store as Stored};
+ghost use Rattle.machine.specs.States.{started_run, is_going, ended_run};
 
-use isa::{Instruction, Refusal};
+use isa::Refusal;
 use store::StoreFault;
 
 /// Why an instruction could not be read or carried out: a refusal of the run's own, or the store's with its page.
-#[derive(Clone, Copy)]
+#[derive(Clone, Copy, Debug, PartialEq, Eq)]
 pub enum Fault {
     Own(Refusal),
     Store(StoreFault),
@@ -29,15 +30,8 @@ impl From<Refusal> for Fault {
     }
 }
 
-/// What is read at a point: an instruction and the point after it, or the end mark.
-#[derive(Drop)]
-pub enum Reading<T> {
-    Instruction(Instruction<T>, T),
-    Mark,
-}
-
 /// How the latest run ended.
-#[derive(Clone, Copy)]
+#[derive(Clone, Copy, Debug, PartialEq, Eq)]
 pub enum Ending<T> {
     /// There was no run yet.
     Never,
@@ -49,31 +43,49 @@ pub enum Ending<T> {
     Failed(Fault, T),
 }
 
-/// The one jump counter.
-#[derive(Clone, Copy)]
-pub enum Counter {
-    Empty,
-    Holding(u8),
-}
-
-/// The ticks that a wait still takes.
-#[derive(Clone, Copy)]
-pub enum Wait {
-    Nothing,
-    Ticks(u32),
-}
-
-#[derive(Clone, Copy)]
+/// A run; its points are places for an axis.
+#[derive(Clone, Copy, Debug, PartialEq, Eq)]
 pub struct Run<T> {
     /// Where the next instruction stands.
     pub next: T,
-    pub counter: Counter,
-    pub wait: Wait,
+    /// The one jump counter, unless it is empty.
+    pub counter: Option<u8>,
+    /// The ticks that a wait still takes.
+    pub wait: Option<u32>,
     pub ending: Ending<T>,
 }
 
+impl<T: Copy> Run<T> {
+    /// A run that has just been started at a point.
+    pub fn start(at: T) -> Run<T>
+        ensures { result ≡ started_run at }
+    {
+        Run {
+            next: at,
+            counter: None,
+            wait: None,
+            ending: Ending::Running,
+        }
+    }
+
+    pub fn is_going(&self) -> bool
+        ensures { result ≡ is_going self.now.ending }
+    {
+        matches!(self.ending, Ending::Running)
+    }
+
+    /// Ends a run that is going; no other ending changes.
+    pub fn end(&mut self, ending: Ending<T>)
+        ensures { self.new ≡ ended_run ending self.old }
+    {
+        if self.is_going() {
+            self.ending = ending;
+        }
+    }
+}
+
 /// Where a run goes after an instruction.
-#[derive(Clone, Copy)]
+#[derive(Clone, Copy, Debug, PartialEq, Eq)]
 pub enum Course {
     /// To the instruction after it.
     Onward,

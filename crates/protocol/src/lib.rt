@@ -2,7 +2,6 @@
 
 #![tactic(auto)]
 
-mod gathered;
 mod reading;
 mod receiver;
 

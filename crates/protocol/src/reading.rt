@@ -1,9 +1,9 @@
 //! What the bytes of a message ask.
 
-ghost use Rattle.std.specs.Prelude.{◌≡◌, ◌∷◌};
+ghost use Rattle.std.specs.Prelude.{◌≡◌, ◌∷◌, IfOk};
 ghost use Rattle.token.specs.Spots.{left, token_of};
 ghost use Rattle.machine.specs.Messages.{message_of, worded, soft_stop, asked, asked_by};
-ghost use Rattle.protocol.specs.Fits.{FitsRead};
+ghost use Rattle.protocol.specs.Fits.{Fits};
 
 use isa::{Instruction, Refusal};
 use machine::Message;
@@ -19,29 +19,28 @@ const BARE: Front = Front {
 };
 
 /// What the bytes of a message ask. Its operands are then those of the table, and it is no wait.
+#[tactic(auto, unfolding(machine::specs::Messages::message_of))]
 pub fn read_message(bytes: &[u8]) -> Result<Message, Refusal>
     ensures value { result ≡ message_of bytes.now }
-    ensures fits { FitsRead result }
+    ensures fits { IfOk result Fits }
 {
     if first_bad(bytes).is_some() {
         return Err(Refusal::Character);
     }
     let mut scan = Scanner::new(0, bytes);
-    match scan.next() {
-        Some(spot) => read_words(spot, scan),
-        None => Err(Refusal::Operands),
-    }
+    let spot = scan.next().ok_or(Refusal::Operands)?;
+    read_words(spot, scan)
 }
 
 /// The message's first token, and those after it.
 fn read_words<'a>(spot: Spot<'a>, scan: Scanner<'a>) -> Result<Message, Refusal>
     ensures { result ≡ worded (token_of spot.entry ∷ left scan.entry) }
 {
-    if spot.text.is_empty() {
+    let [letter, rest @ ..] = spot.text else {
         return Err(Refusal::Operands);
-    }
-    match spot.text[0] {
-        b'@' => soft_stop(&spot.text[1..], scan),
+    };
+    match letter {
+        b'@' => soft_stop(rest, scan),
         b'J' | b'L' | b'W' => Err(Refusal::Letter),
         _ => asked_by(instruction(BARE, spot, scan)),
     }
@@ -60,10 +59,9 @@ fn soft_stop<'a>(rest: &'a [u8], mut scan: Scanner<'a>) -> Result<Message, Refus
 fn asked_by(line: Result<Line, TextFault>) -> Result<Message, Refusal>
     ensures { result ≡ asked_by line }
 {
-    match line {
-        Ok(Line::Holds(source)) => asked(source.instruction),
-        Ok(_) => Err(Refusal::Operands),
-        Err(fault) => Err(fault.refusal),
+    match line.map_err(|fault| fault.refusal)? {
+        Line::Holds(source) => asked(source.instruction),
+        Line::Blank | Line::Opens { .. } => Err(Refusal::Operands),
     }
 }
 

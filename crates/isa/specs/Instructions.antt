@@ -1,5 +1,5 @@
 -- Letter, operands and target of an instruction.
-use Rattle.std.specs.Prelude.{◌≡◌, ℕ, pos, Some, None, Ok, Err, Option, Result}
+use Rattle.std.specs.Prelude.{◌≡◌, ℕ, pos, Some, None, Option}
 use Rattle.isa.specs.Shapes.{operands}
 use Rattle.isa.specs.declared.shape.Operands.{Operands}
 use Rattle.isa.specs.declared.instruction.Direction.TheVariants.{Plus, Minus}
@@ -59,8 +59,3 @@ Retargets R (Go x) j = (y : _) × R x y × (j ≡ Go y)
 Retargets R (Jump x n) j = (y : _) × R x y × (j ≡ Jump y n)
 Retargets R (JumpLow x c) j = (y : _) × R x y × (j ≡ JumpLow y c)
 Retargets R (Act a) j = j ≡ Act a
-
--- the same, where there may be none
-abbrev pub TriesTarget : {X Y E : Type 0} → (X → Result Y E → Type 0) → Instruction X → Result (Instruction Y) E → Type 0
-TriesTarget R i (Ok j) = Retargets (λ x y. R x (Ok y)) i j
-TriesTarget R i (Err e) = (x : _) × (target_of i ≡ Some x) × R x (Err e)

@@ -1,7 +1,7 @@
 //! Instructions.
 
 ghost use Rattle.std.specs.Prelude.{◌≡◌};
-ghost use Rattle.isa.specs.Instructions.{letter_of, operands_of, target_of, Retargets, TriesTarget};
+ghost use Rattle.isa.specs.Instructions.{letter_of, operands_of, target_of, Retargets};
 
 use crate::shape::Operands;
 
@@ -108,25 +108,6 @@ impl<T: Copy> Instruction<T> {
             },
             Instruction::Act(action) => Instruction::Act(action),
         }
-    }
-
-    /// The same instruction with another target, where there is one to be had.
-    pub fn try_map<U, E, F: FnOnce(T) -> Result<U, E>>(self, f: F) -> Result<Instruction<U>, E>
-        requires { F.IsAlwaysCallable f }
-        ensures { TriesTarget (F.post f) self result }
-    {
-        Ok(match self {
-            Instruction::Go(target) => Instruction::Go(f(target)?),
-            Instruction::Jump { target, times } => Instruction::Jump {
-                target: f(target)?,
-                times,
-            },
-            Instruction::JumpLow { target, port } => Instruction::JumpLow {
-                target: f(target)?,
-                port,
-            },
-            Instruction::Act(action) => Instruction::Act(action),
-        })
     }
 }
 

@@ -48,9 +48,6 @@ appends_more {xs} {ys} {a} {b} {c} v w = record {
   len = let e = v.len in let f = w.len in omega (arith, length-append xs ys);
 }
 
-pub appends_none : (a : Listing) → Appends [] a a
-appends_none a = record { same = refl; output = refl; len = omega arith }
-
 -- one operand more
 pub spaced_more : (zs : List ℤ) (k : ℕ) → k < length zs → spaced (take (k + 1) zs) ≡ spaced (take k zs) ++ (space ∷ signed (get_or zs k (pos 0)))
 spaced_more zs k h =

@@ -24,7 +24,7 @@ struct Listing<'a> {
 impl<'a> Listing<'a> {
     ghost use Rattle.std.specs.Prelude.{◌≡◌, ◌<◌, true, unsigned_abs, All};
     ghost use Rattle.isa.specs.Codes.{in_range};
-    ghost use Rattle.sequence.specs.Listings.{instruction_text, at_line, found_text};
+    ghost use Rattle.sequence.specs.Listings.{instruction_text, at_line, opening, found_text};
     ghost use Rattle.sequence.specs.Numbers.{signed};
     ghost use Rattle.lister.specs.Writes.{HasRoom, Appends, spaced};
 
@@ -79,15 +79,23 @@ impl<'a> Listing<'a> {
         self.push(b"\n");
     }
 
-    /// Writes the line of an instruction; the first of a stretch has the line that opens it before its own.
+    /// Writes the line that opens a stretch, if this instruction is its first.
+    fn push_opening(&mut self, found: Found)
+        requires { HasRoom (opening found) self.old }
+        ensures { Appends (opening found) self.old self.new }
+    {
+        if found.opens {
+            self.push_at_line(found.place);
+        }
+    }
+
+    /// Writes what the listing says of one instruction.
     fn push_found(&mut self, found: Found)
         requires range { in_range found.instruction ≡ true }
         requires room { HasRoom (found_text found) self.old }
         ensures { Appends (found_text found) self.old self.new }
     {
-        if found.opens {
-            self.push_at_line(found.place);
-        }
+        self.push_opening(found);
         self.push_number(found.place);
         self.push(b" ");
         self.push_instruction(found.instruction);

@@ -1,0 +1,9 @@
+//! What the programs share: listing and translating with memory of their own, reading the input, writing the output.
+
+#![tactic(auto)]
+
+mod conversion;
+mod streams;
+
+pub use conversion::{IMAGE_SIZE, LISTING_ROOM, MARK, MOST_BYTES, MOST_LABELS, Translation, listing_of, translation_of};
+pub use streams::{read_at_most, refuse, write_out};

@@ -7,9 +7,9 @@
 #![tactic(auto)]
 
 use anyhow::{Context, ensure};
-use isa::MARK;
+
 use lister::list;
-use programs::{IMAGE_SIZE, LISTING_ROOM, translation_of};
+use programs::{IMAGE_SIZE, LISTING_ROOM, MARK, translation_of};
 use std::alloc::Global;
 use std::io;
 

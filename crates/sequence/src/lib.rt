@@ -9,3 +9,4 @@ mod words;
 
 pub use image::{Found, ImageFault};
 pub use text::{Definition, Kind, Label, Line, Source, Target, TextFault, WrittenPlace};
+pub use words::Name;

@@ -9,8 +9,8 @@
 #![tactic(auto)]
 
 use anyhow::{Context, anyhow, ensure};
-use isa::MARK;
-use programs::{IMAGE_SIZE, MOST_LABELS, listing_of, translation_of};
+
+use programs::{IMAGE_SIZE, MARK, MOST_LABELS, listing_of, translation_of};
 use sequence::{Label, Name};
 use std::alloc::Global;
 use std::io;

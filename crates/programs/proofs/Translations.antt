@@ -1,8 +1,8 @@
 -- What the translator answers and leaves is the translation.
-use Rattle.std.proofs.Common.{◌≡◌, ℕ, ◌+◌, ◌≤◌, true, ◌&&◌, List, [], ◌∷◌, ◌++◌, length, take, Some, None, Ok, Err, Option, Result, nat_le, sym, ap, refl, ◌∙◌, arith, length-append}
+use Rattle.std.proofs.Common.{◌≡◌, ℕ, ◌+◌, ◌≤◌, true, ◌&&◌, List, [], ◌∷◌, length, take, Some, None, Ok, Err, Option, Result, nat_le, ap, refl, arith, length-append}
 use Rattle.std.proofs.lemmas.Bool.{and_parts, leb-true}
 use Rattle.isa.specs.declared.refusal.Refusal.TheVariants.{Size, Area}
-use Rattle.isa.specs.Checks.{and_then, require}
+use Rattle.isa.specs.Checks.{require}
 use Rattle.isa.specs.Places.{image_size, user}
 use Rattle.sequence.specs.declared.text.Definition.{Definition}
 use Rattle.sequence.specs.declared.text.Label.{Label}
@@ -13,7 +13,7 @@ use Rattle.sequence.specs.declared.text.TextFault.{TextFault}
 use Rattle.sequence.specs.Texts.{lines}
 use Rattle.sequence.specs.Lines.{text_fault, parsed}
 use Rattle.sequence.specs.Placings.{Plan, fresh, step, defining, in_area, as_written, unshared, laid, opening, place_in, is_none}
-use Rattle.sequence.specs.Translations.{Translation, translation, planned, assembled, blank, labels_in, most_labels, sized_text}
+use Rattle.sequence.specs.Translations.{Translation, translation, planned, assembled, blank, labels_in, most_bytes, most_lines, most_labels, sized_text}
 use Rattle.layout.proofs.Basics.{ok_cond, ok_then, ok_ok, ok_require}
 use Rattle.layout.proofs.LabelCounts.{defined_in, defined_by, label_counted}
 use Rattle.translator.specs.Answers.{translated, answered, image_after, TableAfter}
@@ -54,11 +54,15 @@ planned_few l (b ∷ bs) s s' e =
     let later = planned_few (l + 1) bs v.0 s' v.2 in
     omega arith
 
+sized_labels : (text : List ℕ) → sized_text text ≡ true → labels_in (lines text) ≤ most_labels
+sized_labels text h =
+    let sizes = and_parts (nat_le (length text) most_bytes) (nat_le (length (lines text)) most_lines && nat_le (labels_in (lines text)) most_labels) h in
+    leb-true (labels_in (lines text)) most_labels (and_parts (nat_le (length (lines text)) most_lines) (nat_le (labels_in (lines text)) most_labels) sizes.1).1
+
 pub few_labels : (text : List ℕ) (t : Translation) → translation text ≡ Ok t → length t.labels ≤ most_labels
 few_labels text t e =
     let u = ok_then (require (sized_text text) (text_fault Size 0 0)) _ t e in
-    let sized : sized_text text ≡ true = ok_require _ _ _ u.1 in
-    let labels : labels_in (lines text) ≤ most_labels = leb-true _ _ (and_parts _ _ (and_parts _ _ sized).1).1 in
+    let labels = sized_labels text (ok_require (sized_text text) (text_fault Size 0 0) u.0 u.1) in
     let v = ok_then (planned 1 (lines text) fresh) _ t u.2 in
     let w = ok_then (assembled v.0 1 (lines text) 0 blank) _ t v.2 in
     let n = ap (λ (q : Translation). length q.labels) (ok_ok (record { image = w.0; labels = v.0.labels; count = v.0.count }) t w.2) in

@@ -43,7 +43,10 @@ pub struct Translation {
 }
 
 /// The translation of a text, or why there is none.
-pub fn translation_of(heap: Global, text: &[u8]) -> Result<Result<Translation, TextFault>, AllocError>
+pub fn translation_of(
+    heap: Global,
+    text: &[u8],
+) -> Result<Result<Translation, TextFault>, AllocError>
     ensures { IfOk result (λ answer. translation_in answer ≡ translation text.now) }
 {
     let mut image = vec![in heap; 0u8; IMAGE_SIZE]?;
@@ -51,7 +54,11 @@ pub fn translation_of(heap: Global, text: &[u8]) -> Result<Result<Translation, T
     match translate(text, image.as_mut_slice(), labels.as_mut_slice()) {
         Ok(counts) => {
             labels.truncate(counts.labels);
-            Ok(Ok(Translation { image, labels, lines: counts.lines }))
+            Ok(Ok(Translation {
+                image,
+                labels,
+                lines: counts.lines,
+            }))
         }
         Err(fault) => Ok(Err(fault)),
     }

@@ -1,10 +1,11 @@
 //! The standard input and output of a program.
 
-ghost use Rattle.std.specs.Prelude.{◌≡◌, OnOk, IfOk, IfSome, IsErr, take};
+ghost use Rattle.std.specs.Prelude.{◌≡◌, ◌++◌, OnOk, IfOk, IfSome, IsErr, take, codes};
 ghost use Rattle.std.specs.Io.KnownBytes.{Appends};
 
 use std::alloc::Global;
 use std::error::Error;
+use std::fmt::Display;
 use std::io;
 use std::io::{Read, Write};
 
@@ -42,7 +43,20 @@ pub fn refuse<W: Write, F: Error>(
 ) -> anyhow::Result<()>
     ensures { IsErr result }
 {
-    let line = format!(in rt.alloc(); "{fault}\n")?;
-    write_out(rt, program, out, line.as_bytes())?;
+    answer(rt, program, out, &fault)?;
     Err(fault.into())
+}
+
+/// Writes an answer and a line feed.
+fn answer<W: Write, F: Display>(
+    rt: &(impl Eprint + AllocGlobal),
+    program: &str,
+    out: &mut W,
+    fault: &F,
+) -> anyhow::Result<()>
+    ensures { OnOk result (IfSome (F.output fault.now)
+        (λ line. Appends (W.contents out.old) (W.contents out.new) (line ++ codes "\n"))) }
+{
+    let line = format!(in rt.alloc(); "{fault}\n")?;
+    write_out(rt, program, out, line.as_bytes())
 }

@@ -1,0 +1,40 @@
+//! That the calls succeed.
+
+use crate::{listing_of, read_at_most, refuse, translation_of, write_out};
+use isa::Refusal;
+use sequence::ImageFault;
+use std::test::Fail;
+
+#[test]
+fn a_text_goes_round(rt: HostRuntime) -> Result<(), Fail> {
+    let text = "at 0\nback: Z\nJ back 2\n";
+    let translation = translation_of(rt.alloc(), text.as_bytes())??;
+    assert_eq!(rt; translation.image.len(), 2_048);
+    assert_eq!(rt; translation.labels.len(), 1);
+    assert_eq!(rt; translation.lines, 2);
+    let listing = listing_of(rt.alloc(), translation.image.as_slice())??;
+    assert_eq!(rt; listing.as_slice(), b"at 0\n0 Z\n1 J 0 2\n".as_slice());
+    Ok(())
+}
+
+#[test]
+fn what_is_read_is_written(rt: HostRuntime) -> Result<(), Fail> {
+    let input = b"sequence".as_slice();
+    let bytes = read_at_most(rt.alloc(), input, 5)?;
+    assert_eq!(rt; bytes.as_slice(), b"seque".as_slice());
+    let mut out = Vec::new(rt.alloc());
+    write_out(&rt, "tests", &mut out, bytes.as_slice())?;
+    assert_eq!(rt; out.as_slice(), b"seque".as_slice());
+    Ok(())
+}
+
+#[test]
+fn a_refusal_is_answered(rt: HostRuntime) {
+    let mut out = Vec::new(rt.alloc());
+    let fault = ImageFault {
+        refusal: Refusal::Area,
+        place: 193,
+    };
+    assert!(rt; refuse(&rt, "tests", &mut out, fault).is_err());
+    assert_eq!(rt; out.as_slice(), b"?08 193\n".as_slice());
+}

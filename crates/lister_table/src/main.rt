@@ -7,9 +7,9 @@
 #![tactic(auto)]
 
 use anyhow::{Context, ensure};
-
-use lister::list;
-use programs::{IMAGE_SIZE, LISTING_ROOM, MARK, translation_of};
+use isa::{IMAGE_SIZE, MARK};
+use lister::{LISTING_ROOM, list};
+use programs::translation_of;
 use std::alloc::Global;
 use std::io;
 

@@ -5,20 +5,11 @@ ghost use Rattle.sequence.specs.Listings.{listing_room, listed};
 ghost use Rattle.sequence.specs.Translations.{translation};
 ghost use Rattle.programs.specs.Conversions.{listing_in, translation_in};
 
-use lister::list;
+use isa::IMAGE_SIZE;
+use lister::{LISTING_ROOM, list};
 use sequence::{ImageFault, Label, TextFault};
 use std::alloc::{AllocError, Global};
-use translator::translate;
-
-pub const MARK: u8 = 255;
-
-pub const IMAGE_SIZE: usize = 2_048;
-
-pub const MOST_BYTES: usize = 16_384;
-
-pub const LISTING_ROOM: usize = 16_384;
-
-pub const MOST_LABELS: usize = 64;
+use translator::{MOST_LABELS, translate};
 
 /// The listing of an image, or why there is none.
 pub fn listing_of(heap: Global, image: &[u8]) -> Result<Result<Vec<u8>, ImageFault>, AllocError>

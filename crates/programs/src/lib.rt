@@ -5,10 +5,7 @@
 mod conversion;
 mod streams;
 
-pub use conversion::{
-    IMAGE_SIZE, LISTING_ROOM, MARK, MOST_BYTES, MOST_LABELS, Translation, listing_of,
-    translation_of,
-};
+pub use conversion::{Translation, listing_of, translation_of};
 pub use streams::{read_at_most, refuse, write_out};
 
 #[cfg(test)]

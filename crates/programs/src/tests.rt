@@ -1,7 +1,7 @@
 //! That the calls succeed.
 
 use crate::{listing_of, read_at_most, refuse, translation_of, write_out};
-use isa::Refusal;
+use isa::{IMAGE_SIZE, Refusal};
 use sequence::ImageFault;
 use std::test::Fail;
 
@@ -9,7 +9,7 @@ use std::test::Fail;
 fn a_text_goes_round(rt: HostRuntime) -> Result<(), Fail> {
     let text = "at 0\nback: Z\nJ back 2\n";
     let translation = translation_of(rt.alloc(), text.as_bytes())??;
-    assert_eq!(rt; translation.image.len(), 2_048);
+    assert_eq!(rt; translation.image.len(), IMAGE_SIZE);
     assert_eq!(rt; translation.labels.len(), 1);
     assert_eq!(rt; translation.lines, 2);
     let listing = listing_of(rt.alloc(), translation.image.as_slice())??;
@@ -31,10 +31,7 @@ fn what_is_read_is_written(rt: HostRuntime) -> Result<(), Fail> {
 #[test]
 fn a_refusal_is_answered(rt: HostRuntime) {
     let mut out = Vec::new(rt.alloc());
-    let fault = ImageFault {
-        refusal: Refusal::Area,
-        place: 193,
-    };
+    let fault = ImageFault::new(Refusal::Area, 193);
     assert!(rt; refuse(&rt, "tests", &mut out, fault).is_err());
     assert_eq!(rt; out.as_slice(), b"?08 193\n".as_slice());
 }

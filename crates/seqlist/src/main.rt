@@ -5,8 +5,8 @@
 
 #![tactic(auto)]
 
-use isa::Refusal;
-use programs::{IMAGE_SIZE, listing_of, read_at_most, refuse, write_out};
+use isa::{IMAGE_SIZE, Refusal};
+use programs::{listing_of, read_at_most, refuse, write_out};
 use sequence::ImageFault;
 use std::process::ExitCode;
 
@@ -26,11 +26,7 @@ fn run(rt: &HostRuntime) -> anyhow::Result<()> {
         Ok(image) => print_listing(rt, image.as_slice()),
         Err(error) => {
             eprintln!(rt; "{NAME}: standard input cannot be read: {error}")?;
-            let fault = ImageFault {
-                refusal: Refusal::Size,
-                place: 0,
-            };
-            refuse(rt, NAME, &mut rt.stdout(), fault)
+            refuse(rt, NAME, &mut rt.stdout(), ImageFault::new(Refusal::Size, 0))
         }
     }
 }

@@ -8,11 +8,12 @@
 
 use anyhow::anyhow;
 use isa::Refusal;
-use programs::{MOST_BYTES, read_at_most, refuse, translation_of, write_out};
+use programs::{read_at_most, refuse, translation_of, write_out};
 use sequence::TextFault;
 use std::alloc::{AllocError, Global};
 use std::env;
 use std::process::ExitCode;
+use translator::MOST_BYTES;
 
 const NAME: &str = "seqtran";
 
@@ -34,12 +35,7 @@ fn run(rt: &HostRuntime) -> anyhow::Result<()> {
         Ok(text) => print_image(rt, text.as_slice(), with_labels),
         Err(error) => {
             eprintln!(rt; "{NAME}: standard input cannot be read: {error}")?;
-            let fault = TextFault {
-                refusal: Refusal::Size,
-                line: 0,
-                column: 0,
-            };
-            refuse(rt, NAME, &mut rt.stdout(), fault)
+            refuse(rt, NAME, &mut rt.stdout(), TextFault::new(Refusal::Size, 0, 0))
         }
     }
 }

@@ -9,12 +9,12 @@
 #![tactic(auto)]
 
 use anyhow::{Context, anyhow, ensure};
-
-use programs::{IMAGE_SIZE, MARK, MOST_LABELS, listing_of, translation_of};
+use isa::{IMAGE_SIZE, MARK};
+use programs::{listing_of, translation_of};
 use sequence::{Label, Name};
 use std::alloc::Global;
 use std::io;
-use translator::{Translated, translate};
+use translator::{MOST_LABELS, Translated, translate};
 
 /// How many places a row shows.
 const ROW: usize = 16;

@@ -118,6 +118,9 @@ fn show(rt: &HostRuntime, case: &Case) -> anyhow::Result<()> {
 /// The listing is a text that is translated into the same image.
 fn comes_back(heap: Global, listing: &[u8], image: &[u8]) -> anyhow::Result<()> {
     let again = translation_of(heap, listing)?.context("the listing is refused as a text")?;
-    ensure!(again.image.as_slice() == image, "the listing has another image");
+    ensure!(
+        again.image.as_slice() == image,
+        "the listing has another image"
+    );
     Ok(())
 }

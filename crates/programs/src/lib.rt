@@ -6,7 +6,7 @@ mod conversion;
 mod streams;
 
 pub use conversion::{Translation, listing_of, translation_of};
-pub use streams::{read_at_most, refuse, write_out};
+pub use streams::Program;
 
 #[cfg(test)]
 mod tests;

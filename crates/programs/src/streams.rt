@@ -1,62 +1,56 @@
-//! The standard input and output of a program.
+//! The standard input, output and error of a program.
 
-ghost use Rattle.std.specs.Prelude.{◌≡◌, ◌++◌, OnOk, IfOk, IfSome, IsErr, take, codes};
+ghost use Rattle.std.specs.Prelude.{◌≡◌, ◌++◌, OnOk, IfOk, IfSome, take, codes};
 ghost use Rattle.std.specs.Io.KnownBytes.{Appends};
 
-use std::alloc::Global;
 use std::error::Error;
-use std::fmt::Display;
-use std::io;
 use std::io::{Read, Write};
 
-/// The bytes that a reader has left, and no more of them than `limit`.
-pub fn read_at_most<R: Read + Drop>(heap: Global, reader: R, limit: u64) -> io::Result<Vec<u8>>
-    ensures { IfOk result (λ bytes. IfSome (R.remaining reader) (λ left. bytes.items ≡ take limit left)) }
-{
-    let mut bytes = Vec::new(heap);
-    reader.take(limit).read_to_end(&mut bytes)?;
-    Ok(bytes)
+/// A program by its name, the runtime through which it speaks on standard error, and its standard output.
+#[derive(Drop)]
+pub struct Program<'a, R, W> {
+    pub name: &'static str,
+    pub rt: &'a R,
+    pub out: W,
 }
 
-/// Writes bytes to the standard output of a program; why that failed is told on its standard error.
-pub fn write_out<W: Write>(
-    rt: &impl Eprint,
-    program: &str,
-    out: &mut W,
-    bytes: &[u8],
-) -> anyhow::Result<()>
-    ensures { OnOk result (Appends (W.contents out.old) (W.contents out.new) bytes.now) }
-{
-    if let Err(error) = out.write_all(bytes) {
-        eprintln!(rt; "{program}: standard output cannot be written: {error}")?;
-        return Err(error.into());
+impl<R: Eprint + AllocGlobal, W: Write> Program<'_, R, W> {
+    /// The bytes that the input has left, and no more of them than `limit`. Why it cannot be read is told on standard
+    /// error, and answered as `unreadable`.
+    pub fn read<I: Read + Drop, F: Error>(
+        &mut self,
+        input: I,
+        limit: u64,
+        unreadable: F,
+    ) -> anyhow::Result<Vec<u8>>
+        ensures { IfOk result (λ bytes. IfSome (I.remaining input) (λ left. bytes.items ≡ take limit left)) }
+    {
+        let mut bytes = Vec::new(self.rt.alloc());
+        if let Err(error) = input.take(limit).read_to_end(&mut bytes) {
+            eprintln!(self.rt; "{}: standard input cannot be read: {error}", self.name)?;
+            return Err(self.answer(unreadable)?);
+        }
+        Ok(bytes)
     }
-    Ok(())
-}
 
-/// Answers a refusal by its line on the standard output; it is handed on, for the program to end with.
-pub fn refuse<W: Write, F: Error>(
-    rt: &(impl Eprint + AllocGlobal),
-    program: &str,
-    out: &mut W,
-    fault: F,
-) -> anyhow::Result<()>
-    ensures { IsErr result }
-{
-    answer(rt, program, out, &fault)?;
-    Err(fault.into())
-}
+    /// Writes bytes to the output. Why that failed is told on standard error.
+    pub fn write(&mut self, bytes: &[u8]) -> anyhow::Result<()>
+        ensures { OnOk result (Appends (W.contents self.old.out) (W.contents self.new.out) bytes.now) }
+    {
+        if let Err(error) = self.out.write_all(bytes) {
+            eprintln!(self.rt; "{}: standard output cannot be written: {error}", self.name)?;
+            return Err(error.into());
+        }
+        Ok(())
+    }
 
-/// Writes an answer and a line feed.
-fn answer<W: Write, F: Display>(
-    rt: &(impl Eprint + AllocGlobal),
-    program: &str,
-    out: &mut W,
-    fault: &F,
-) -> anyhow::Result<()>
-    ensures { OnOk result (IfSome (F.output fault.now)
-        (λ line. Appends (W.contents out.old) (W.contents out.new) (line ++ codes "\n"))) }
-{
-    let line = format!(in rt.alloc(); "{fault}\n")?;
-    write_out(rt, program, out, line.as_bytes())
+    /// Answers a refusal by its line on the output, and hands it on as the error with which the program ends.
+    pub fn answer<F: Error>(&mut self, fault: F) -> anyhow::Result<anyhow::Error>
+        ensures { OnOk result (IfSome (F.output fault)
+            (λ line. Appends (W.contents self.old.out) (W.contents self.new.out) (line ++ codes "\n"))) }
+    {
+        let line = format!(in self.rt.alloc(); "{fault}\n")?;
+        self.write(line.as_bytes())?;
+        Ok(fault.into())
+    }
 }

@@ -1,6 +1,6 @@
 //! That the calls succeed.
 
-use crate::{listing_of, read_at_most, refuse, translation_of, write_out};
+use crate::{Program, listing_of, translation_of};
 use isa::{IMAGE_SIZE, Refusal};
 use sequence::ImageFault;
 use std::test::Fail;
@@ -19,19 +19,26 @@ fn a_text_goes_round(rt: HostRuntime) -> Result<(), Fail> {
 
 #[test]
 fn what_is_read_is_written(rt: HostRuntime) -> Result<(), Fail> {
-    let input = b"sequence".as_slice();
-    let bytes = read_at_most(rt.alloc(), input, 5)?;
-    assert_eq!(rt; bytes.as_slice(), b"seque".as_slice());
-    let mut out = Vec::new(rt.alloc());
-    write_out(&rt, "tests", &mut out, bytes.as_slice())?;
-    assert_eq!(rt; out.as_slice(), b"seque".as_slice());
+    let mut program = Program {
+        name: "tests",
+        rt: &rt,
+        out: Vec::new(rt.alloc()),
+    };
+    let unreadable = ImageFault::new(Refusal::Size, 0);
+    let bytes = program.read(b"sequence".as_slice(), 5, unreadable)?;
+    program.write(bytes.as_slice())?;
+    assert_eq!(rt; program.out.as_slice(), b"seque".as_slice());
     Ok(())
 }
 
 #[test]
-fn a_refusal_is_answered(rt: HostRuntime) {
-    let mut out = Vec::new(rt.alloc());
-    let fault = ImageFault::new(Refusal::Area, 193);
-    assert!(rt; refuse(&rt, "tests", &mut out, fault).is_err());
-    assert_eq!(rt; out.as_slice(), b"?08 193\n".as_slice());
+fn a_refusal_is_answered(rt: HostRuntime) -> Result<(), Fail> {
+    let mut program = Program {
+        name: "tests",
+        rt: &rt,
+        out: Vec::new(rt.alloc()),
+    };
+    program.answer(ImageFault::new(Refusal::Area, 193))?;
+    assert_eq!(rt; program.out.as_slice(), b"?08 193\n".as_slice());
+    Ok(())
 }

@@ -6,11 +6,9 @@
 #![tactic(auto)]
 
 use isa::{IMAGE_SIZE, Refusal};
-use programs::{listing_of, read_at_most, refuse, write_out};
+use programs::{Program, listing_of};
 use sequence::ImageFault;
 use std::process::ExitCode;
-
-const NAME: &str = "seqlist";
 
 /// Whoever refuses has said so on standard output and standard error; the status is all that is left to say.
 fn main(rt: HostRuntime) -> ExitCode {
@@ -21,22 +19,19 @@ fn main(rt: HostRuntime) -> ExitCode {
 }
 
 fn run(rt: &HostRuntime) -> anyhow::Result<()> {
+    let mut program = Program {
+        name: "seqlist",
+        rt,
+        out: rt.stdout(),
+    };
+    let unreadable = ImageFault::new(Refusal::Size, 0);
     // One byte more than an image has tells one that is too long.
-    match read_at_most(rt.alloc(), rt.stdin(), IMAGE_SIZE as u64 + 1) {
-        Ok(image) => print_listing(rt, image.as_slice()),
-        Err(error) => {
-            eprintln!(rt; "{NAME}: standard input cannot be read: {error}")?;
-            refuse(rt, NAME, &mut rt.stdout(), ImageFault::new(Refusal::Size, 0))
-        }
-    }
-}
-
-fn print_listing(rt: &HostRuntime, image: &[u8]) -> anyhow::Result<()> {
-    match listing_of(rt.alloc(), image)? {
-        Ok(listing) => write_out(rt, NAME, &mut rt.stdout(), listing.as_slice()),
+    let image = program.read(rt.stdin(), IMAGE_SIZE as u64 + 1, unreadable)?;
+    match listing_of(rt.alloc(), image.as_slice())? {
+        Ok(listing) => program.write(listing.as_slice()),
         Err(fault) => {
-            eprintln!(rt; "{NAME}: place {}: {}", fault.place, fault.refusal)?;
-            refuse(rt, NAME, &mut rt.stdout(), fault)
+            eprintln!(rt; "seqlist: place {}: {}", fault.place, fault.refusal)?;
+            Err(program.answer(fault)?)
         }
     }
 }

@@ -8,14 +8,12 @@
 
 use anyhow::anyhow;
 use isa::Refusal;
-use programs::{read_at_most, refuse, translation_of, write_out};
-use sequence::TextFault;
+use programs::{Program, translation_of};
+use sequence::{Label, TextFault};
 use std::alloc::{AllocError, Global};
 use std::env;
 use std::process::ExitCode;
 use translator::MOST_BYTES;
-
-const NAME: &str = "seqtran";
 
 /// Whoever refuses has said so on standard output and standard error; the status is all that is left to say.
 fn main(rt: HostRuntime) -> ExitCode {
@@ -30,12 +28,25 @@ fn run(rt: &HostRuntime) -> anyhow::Result<()> {
         eprintln!(rt; "usage: seqtran [--labels] < TEXT > IMAGE")?;
         return Err(anyhow!("the arguments are wrong"));
     };
+    let mut program = Program {
+        name: "seqtran",
+        rt,
+        out: rt.stdout(),
+    };
+    let unreadable = TextFault::new(Refusal::Size, 0, 0);
     // One byte more than a text may have tells one that is too long.
-    match read_at_most(rt.alloc(), rt.stdin(), MOST_BYTES as u64 + 1) {
-        Ok(text) => print_image(rt, text.as_slice(), with_labels),
-        Err(error) => {
-            eprintln!(rt; "{NAME}: standard input cannot be read: {error}")?;
-            refuse(rt, NAME, &mut rt.stdout(), TextFault::new(Refusal::Size, 0, 0))
+    let text = program.read(rt.stdin(), MOST_BYTES as u64 + 1, unreadable)?;
+    match translation_of(rt.alloc(), text.as_slice())? {
+        Ok(translation) => {
+            program.write(translation.image.as_slice())?;
+            if with_labels {
+                print_labels(rt, translation.labels.as_slice())?;
+            }
+            Ok(())
+        }
+        Err(fault) => {
+            explain(rt, text.as_slice(), fault)?;
+            Err(program.answer(fault)?)
         }
     }
 }
@@ -49,22 +60,11 @@ fn wants_labels(rt: &HostRuntime) -> Option<bool> {
     (word.as_str() == "--labels" && words.next().is_none()).then_some(true)
 }
 
-fn print_image(rt: &HostRuntime, text: &[u8], with_labels: bool) -> anyhow::Result<()> {
-    match translation_of(rt.alloc(), text)? {
-        Ok(translation) => {
-            write_out(rt, NAME, &mut rt.stdout(), translation.image.as_slice())?;
-            if with_labels {
-                for label in &translation.labels {
-                    eprintln!(rt; "{label}")?;
-                }
-            }
-            Ok(())
-        }
-        Err(fault) => {
-            explain(rt, text, fault)?;
-            refuse(rt, NAME, &mut rt.stdout(), fault)
-        }
+fn print_labels(rt: &HostRuntime, labels: &[Label]) -> anyhow::Result<()> {
+    for label in labels {
+        eprintln!(rt; "{label}")?;
     }
+    Ok(())
 }
 
 /// The refusal in words, the line itself and a caret under the column, as far as there are such.
@@ -75,13 +75,13 @@ fn explain(rt: &HostRuntime, text: &[u8], fault: TextFault) -> anyhow::Result<()
         column,
     } = fault;
     if line == 0 {
-        eprintln!(rt; "{NAME}: {refusal}")?;
+        eprintln!(rt; "seqtran: {refusal}")?;
         return Ok(());
     }
     if column == 0 {
-        eprintln!(rt; "{NAME}: line {line}: {refusal}")?;
+        eprintln!(rt; "seqtran: line {line}: {refusal}")?;
     } else {
-        eprintln!(rt; "{NAME}: line {line}, column {column}: {refusal}")?;
+        eprintln!(rt; "seqtran: line {line}, column {column}: {refusal}")?;
     }
     let shown = line_shown(rt.alloc(), text, line - 1)?;
     eprintln!(rt; "{shown}")?;
@@ -97,6 +97,10 @@ fn line_shown(heap: Global, text: &[u8], before: usize) -> Result<String, AllocE
         .nth(before)
         .unwrap_or_default()
         .iter()
-        .map(|b| if (32..=126).contains(b) { char::from(*b) } else { '?' })
+        .map(|b| if (32..=126).contains(b) {
+            char::from(*b)
+        } else {
+            '?'
+        })
         .collect(heap)
 }

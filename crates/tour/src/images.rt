@@ -15,7 +15,9 @@ pub fn show_image(rt: &HostRuntime, image: &[u8]) -> anyhow::Result<String> {
     show_bytes(rt, image)?;
     println!(rt; "\nIts listing:")?;
     let bytes = listing_of(rt.alloc(), image)?.context("the image is refused")?;
-    let listing = String::from_utf8(bytes).ok().context("the listing is no text")?;
+    let listing = String::from_utf8(bytes)
+        .ok()
+        .context("the listing is no text")?;
     rt.print(listing.as_str())?;
     Ok(listing)
 }
@@ -31,8 +33,7 @@ pub fn show_damaged(rt: &HostRuntime, image: &[u8]) -> anyhow::Result<()> {
 
 /// The image with another byte at a place.
 fn changed(rt: &HostRuntime, image: &[u8], place: usize, byte: u8) -> Result<Vec<u8>, AllocError> {
-    let mut copy = Vec::new(rt.alloc());
-    copy.extend_from_slice(image)?;
+    let mut copy = image.to_vec(rt.alloc())?;
     if let Some(b) = copy.get_mut(place) {
         *b = byte;
     }
@@ -53,7 +54,10 @@ fn show_refusal(rt: &HostRuntime, image: &[u8]) -> anyhow::Result<()> {
         bail!("the damaged image is accepted");
     };
     println!(rt;
-        "refused with {} at place {}: {}", fault.refusal.number(), fault.place, fault.refusal
+        "refused with {} at place {}: {}",
+        fault.refusal.number(),
+        fault.place,
+        fault.refusal
     )?;
     Ok(())
 }

@@ -11,8 +11,8 @@ const SEQUENCE: &str = "at 0\nO 0\nback: R 1200\nW 0\nR -1200\nW 43\nJ back 2\n"
 pub fn show_translation(rt: &HostRuntime) -> anyhow::Result<Vec<u8>> {
     println!(rt; "A sequence as a person writes it:")?;
     print!(rt; "{SEQUENCE}")?;
-    let Translation { image, labels, .. } =
-        translation_of(rt.alloc(), SEQUENCE.as_bytes())?.context("the sequence is refused")?;
+    let answer = translation_of(rt.alloc(), SEQUENCE.as_bytes())?;
+    let Translation { image, labels, .. } = answer.context("the sequence is refused")?;
     println!(rt; "\nIts label:")?;
     for label in &labels {
         println!(rt; "{label}")?;
@@ -60,7 +60,10 @@ fn show_fault(rt: &HostRuntime, text: &str, fault: TextFault) -> anyhow::Result<
         line,
         column,
     } = fault;
-    println!(rt; "refused with {} at line {line}, column {column}: {refusal}", refusal.number())?;
+    println!(rt;
+        "refused with {} at line {line}, column {column}: {refusal}",
+        refusal.number()
+    )?;
     if let Some(shown) = text.lines().nth(line.saturating_sub(1)) {
         println!(rt; "    {shown}")?;
     }

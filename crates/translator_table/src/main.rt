@@ -204,10 +204,18 @@ fn show(rt: &HostRuntime, case: &Case) -> anyhow::Result<()> {
 fn show_labels(rt: &HostRuntime, counts: Translated, labels: &[Label]) -> anyhow::Result<()> {
     println!(rt; "lines={} labels={}", counts.lines, counts.labels)?;
     for label in labels.iter().take(counts.labels) {
-        println!(rt; "label {} line {} place {}", Name(label.name), label.line, label.place)?;
+        println!(rt;
+            "label {} line {} place {}",
+            Name(label.name),
+            label.line,
+            label.place
+        )?;
     }
     ensure!(
-        labels.iter().skip(counts.labels).all(|label| *label == UNTOUCHED_LABEL),
+        labels
+            .iter()
+            .skip(counts.labels)
+            .all(|label| *label == UNTOUCHED_LABEL),
         "a record past the labels was changed"
     );
     Ok(())
@@ -229,13 +237,15 @@ fn show_rows(rt: &HostRuntime, image: &[u8]) -> anyhow::Result<()> {
 
 /// Lists an image, translates the listing and lists that image: both images and both listings are the same.
 fn go_round(heap: Global, image: &[u8]) -> anyhow::Result<()> {
-    let listing =
-        listing_of(heap, image)?.context("an image of the translator is not listed")?;
-    let again =
-        translation_of(heap, listing.as_slice())?.context("a listing is not translated")?;
-    ensure!(again.image.as_slice() == image, "the listing has another image");
-    let relisting = listing_of(heap, again.image.as_slice())?
-        .context("an image of the translator is not listed")?;
+    let listing = listing_of(heap, image)?.context("an image of the translator is not listed")?;
+    let again = translation_of(heap, listing.as_slice())?.context("a listing is not translated")?;
+    ensure!(
+        again.image.as_slice() == image,
+        "the listing has another image"
+    );
+    let relisting = listing_of(heap, again.image.as_slice())?.context(
+        "an image of the translator is not listed",
+    )?;
     ensure!(
         relisting.as_slice() == listing.as_slice(),
         "the listing's image has another listing"

@@ -1,6 +1,7 @@
 pub mod Checks
 pub mod Places
 pub mod Refusals
+pub mod Words
 pub mod TwosComplement
 pub mod Shapes
 pub mod Instructions

@@ -11,6 +11,7 @@ mod place;
 mod refusal;
 mod shape;
 mod table;
+mod words;
 
 pub use codec::{MARK, decode, encode};
 pub use instruction::{Action, Direction, Instruction};

@@ -6,27 +6,15 @@
 
 #![tactic(auto)]
 
-use anyhow::{Context, anyhow};
-use lister::list;
-use sequence::Label;
+use anyhow::{Context, ensure};
+use isa::{IMAGE_SIZE, MARK};
+use lister::{LISTING_ROOM, list};
+use programs::translation_of;
 use std::alloc::Global;
-use std::io::{Read, Write};
-use translator::translate;
-use wording::image_line;
+use std::io;
 
-const IMAGE_SIZE: usize = 2_048;
-
-const LISTING_ROOM: usize = 16_384;
-
+/// What stands in the output before the lister writes.
 const UNTOUCHED: u8 = 170;
-
-const TABLE_SIZE: usize = 64;
-
-const NO_LABEL: Label = Label {
-    name: [0; 8],
-    line: 0,
-    place: 0,
-};
 
 #[derive(Drop)]
 struct Case {
@@ -39,8 +27,8 @@ fn main(rt: HostRuntime) -> anyhow::Result<()> {
 }
 
 fn run(rt: &HostRuntime) -> anyhow::Result<()> {
-    let mut table = String::new(rt.alloc());
-    rt.stdin().read_to_string(&mut table)?;
+    let table = io::read_to_string(rt.alloc(), rt.stdin())?;
+    // Stays: the other table's program has this loop too; one for both would want a trait for reading and showing a case.
     for line in table.lines() {
         let (name, items) = line.split_once(" |").context("a case has no name")?;
         println!(rt; "== {name}")?;
@@ -50,7 +38,7 @@ fn run(rt: &HostRuntime) -> anyhow::Result<()> {
 }
 
 fn case_of(heap: Global, items: &str) -> anyhow::Result<Case> {
-    let image = vec![in heap; 255u8; IMAGE_SIZE]?;
+    let image = vec![in heap; MARK; IMAGE_SIZE]?;
     let mut case = Case {
         image,
         room: LISTING_ROOM,
@@ -66,7 +54,7 @@ fn change(heap: Global, case: &mut Case, item: &str) -> anyhow::Result<()> {
         return Ok(());
     }
     if let Some(n) = item.strip_prefix("len ") {
-        case.image = vec![in heap; 255u8; n.parse::<usize>()?]?;
+        case.image = vec![in heap; MARK; n.parse::<usize>()?]?;
         return Ok(());
     }
     if let Some(n) = item.strip_prefix("room ") {
@@ -74,8 +62,7 @@ fn change(heap: Global, case: &mut Case, item: &str) -> anyhow::Result<()> {
         return Ok(());
     }
     if let Some(b) = item.strip_prefix("fill ") {
-        let len = case.image.len();
-        case.image = vec![in heap; b.parse::<u8>()?; len]?;
+        case.image.fill(b.parse::<u8>()?);
         return Ok(());
     }
     let (head, bytes) = item
@@ -87,26 +74,22 @@ fn change(heap: Global, case: &mut Case, item: &str) -> anyhow::Result<()> {
                 .split_once(" from ")
                 .context("a repeat without its place")?;
             put(
-                &mut case.image,
+                case.image.as_mut_slice(),
                 place.parse::<usize>()?,
                 times.parse::<u16>()?,
                 bytes,
             )
         }
-        None => put(&mut case.image, head.parse::<usize>()?, 1, bytes),
+        None => put(case.image.as_mut_slice(), head.parse::<usize>()?, 1, bytes),
     }
 }
 
 /// Puts bytes into an image, several times in a row.
-fn put(image: &mut Vec<u8>, place: usize, times: u16, bytes: &str) -> anyhow::Result<()> {
-    let mut at = place;
+fn put(image: &mut [u8], place: usize, times: u16, bytes: &str) -> anyhow::Result<()> {
+    let mut places = image.iter_mut().skip(place);
     for _ in 0..times {
         for b in bytes.split_whitespace() {
-            if at >= image.len() {
-                return Err(anyhow!("a byte past the image's end"));
-            }
-            image[at] = b.parse::<u8>()?;
-            at += 1;
+            *places.next().context("a byte past the image's end")? = b.parse::<u8>()?;
         }
     }
     Ok(())
@@ -114,36 +97,31 @@ fn put(image: &mut Vec<u8>, place: usize, times: u16, bytes: &str) -> anyhow::Re
 
 fn show(rt: &HostRuntime, case: &Case) -> anyhow::Result<()> {
     let mut out = vec![in rt.alloc(); UNTOUCHED; case.room]?;
-    let answer = list(case.image.as_slice(), out.as_mut_slice());
-    let written = match answer {
+    let written = match list(case.image.as_slice(), out.as_mut_slice()) {
         Ok(len) => {
             comes_back(rt.alloc(), &out.as_slice()[0..len], case.image.as_slice())?;
             len
         }
         Err(fault) => {
-            rt.print(image_line(rt.alloc(), fault)?)?;
+            println!(rt; "{fault}")?;
             0
         }
     };
-    for b in out.as_slice().iter().skip(written) {
-        if *b != UNTOUCHED {
-            return Err(anyhow!("the output past the listing was changed"));
-        }
-    }
+    ensure!(
+        out.iter().skip(written).all(|b| *b == UNTOUCHED),
+        "the output past the listing was changed"
+    );
     out.truncate(written);
-    rt.stdout().write_all(out.as_slice())?;
+    rt.write_all(out.as_slice())?;
     Ok(())
 }
 
 /// The listing is a text that is translated into the same image.
 fn comes_back(heap: Global, listing: &[u8], image: &[u8]) -> anyhow::Result<()> {
-    let mut again = vec![in heap; UNTOUCHED; IMAGE_SIZE]?;
-    let mut labels = [NO_LABEL; TABLE_SIZE];
-    if translate(listing, again.as_mut_slice(), &mut labels).is_err() {
-        return Err(anyhow!("the listing is refused as a text"));
-    }
-    if again.as_slice() != image {
-        return Err(anyhow!("the listing has another image"));
-    }
+    let again = translation_of(heap, listing)?.context("the listing is refused as a text")?;
+    ensure!(
+        again.image.as_slice() == image,
+        "the listing has another image"
+    );
     Ok(())
 }

@@ -8,27 +8,12 @@
 
 use anyhow::anyhow;
 use isa::Refusal;
+use programs::{Program, translation_of};
 use sequence::{Label, TextFault};
 use std::alloc::{AllocError, Global};
-use std::io::{Read, Write};
+use std::env;
 use std::process::ExitCode;
-use std::{env, io};
-use translator::translate;
-use wording::{sentence, text_line};
-
-const TEXT_SIZE: u64 = 16_384;
-
-const IMAGE_SIZE: usize = 2_048;
-
-const TABLE_SIZE: usize = 64;
-
-const LINE_FEED: u8 = 10;
-
-const NO_LABEL: Label = Label {
-    name: [0; 8],
-    line: 0,
-    place: 0,
-};
+use translator::MOST_BYTES;
 
 /// Whoever refuses has said so on standard output and standard error; the status is all that is left to say.
 fn main(rt: HostRuntime) -> ExitCode {
@@ -43,97 +28,62 @@ fn run(rt: &HostRuntime) -> anyhow::Result<()> {
         eprintln!(rt; "usage: seqtran [--labels] < TEXT > IMAGE")?;
         return Err(anyhow!("the arguments are wrong"));
     };
-    match read_text(rt) {
-        Ok(text) => print_image(rt, text.as_slice(), with_labels),
-        Err(error) => {
-            eprintln!(rt; "seqtran: standard input cannot be read: {error}")?;
-            refuse(
-                rt,
-                TextFault {
-                    refusal: Refusal::Size,
-                    line: 0,
-                    column: 0,
-                },
-            )
+    let mut program = Program {
+        name: "seqtran",
+        rt,
+        out: rt.stdout(),
+    };
+    let unreadable = TextFault::new(Refusal::Size, 0, 0);
+    // One byte more than a text may have tells one that is too long.
+    let text = program.read(rt.stdin(), MOST_BYTES as u64 + 1, unreadable)?;
+    match translation_of(rt.alloc(), text.as_slice())? {
+        Ok(translation) => {
+            program.write(translation.image.as_slice())?;
+            if with_labels {
+                print_labels(rt, translation.labels.as_slice())?;
+            }
+            Ok(())
+        }
+        Err(fault) => {
+            explain(rt, text.as_slice(), fault)?;
+            Err(program.answer(fault)?)
         }
     }
 }
 
 /// Whether the label table is asked for; nothing if the arguments are none that the program has.
 fn wants_labels(rt: &HostRuntime) -> Option<bool> {
-    let Ok(mut words) = env::args(rt) else {
-        return None;
-    };
-    words.next();
+    let mut words = env::args(rt).ok()?.skip(1);
     let Some(word) = words.next() else {
         return Some(false);
     };
-    if word.as_str() == "--labels" && words.next().is_none() {
-        return Some(true);
-    }
-    None
+    (word.as_str() == "--labels" && words.next().is_none()).then_some(true)
 }
 
-/// The input, or one byte more than a text may have if it is longer.
-fn read_text(rt: &HostRuntime) -> io::Result<Vec<u8>> {
-    let mut text = Vec::new(rt.alloc());
-    rt.stdin().take(TEXT_SIZE + 1).read_to_end(&mut text)?;
-    Ok(text)
-}
-
-fn print_image(rt: &HostRuntime, text: &[u8], with_labels: bool) -> anyhow::Result<()> {
-    let mut image = [0u8; IMAGE_SIZE];
-    let mut labels = [NO_LABEL; TABLE_SIZE];
-    match translate(text, &mut image, &mut labels) {
-        Ok(translated) => {
-            write_out(rt, &image)?;
-            if with_labels {
-                print_labels(rt, &labels, translated.labels)?;
-            }
-            Ok(())
-        }
-        Err(fault) => {
-            explain(rt, text, fault)?;
-            refuse(rt, fault)
-        }
-    }
-}
-
-fn print_labels(rt: &HostRuntime, labels: &[Label], count: usize) -> anyhow::Result<()> {
-    for label in labels.iter().take(count) {
-        let name = name_of(rt.alloc(), label)?;
-        let line = label.line;
-        let place = label.place;
-        eprintln!(rt; "{name}: line {line}, place {place}")?;
+fn print_labels(rt: &HostRuntime, labels: &[Label]) -> anyhow::Result<()> {
+    for label in labels {
+        eprintln!(rt; "{label}")?;
     }
     Ok(())
 }
 
-fn name_of(heap: Global, label: &Label) -> Result<String, AllocError> {
-    let mut name = String::new(heap);
-    for b in label.name.iter() {
-        if *b != 0 {
-            name.push(char::from(*b))?;
-        }
-    }
-    Ok(name)
-}
-
 /// The refusal in words, the line itself and a caret under the column, as far as there are such.
 fn explain(rt: &HostRuntime, text: &[u8], fault: TextFault) -> anyhow::Result<()> {
-    let line = fault.line;
-    let column = fault.column;
-    let why = sentence(fault.refusal);
+    let TextFault {
+        refusal,
+        line,
+        column,
+    } = fault;
     if line == 0 {
-        eprintln!(rt; "seqtran: {why}")?;
+        eprintln!(rt; "seqtran: {refusal}")?;
         return Ok(());
     }
     if column == 0 {
-        eprintln!(rt; "seqtran: line {line}: {why}")?;
+        eprintln!(rt; "seqtran: line {line}: {refusal}")?;
     } else {
-        eprintln!(rt; "seqtran: line {line}, column {column}: {why}")?;
+        eprintln!(rt; "seqtran: line {line}, column {column}: {refusal}")?;
     }
-    let shown = line_shown(rt.alloc(), text, line)?;
+    let shown = line_shown(rt.alloc(), text, line - 1)?;
     eprintln!(rt; "{shown}")?;
     if column != 0 {
         eprintln!(rt; "{:>column$}", "^")?;
@@ -141,34 +91,16 @@ fn explain(rt: &HostRuntime, text: &[u8], fault: TextFault) -> anyhow::Result<()
     Ok(())
 }
 
-/// A line of the text. A byte that is not printable ASCII is shown as `?`, so that each byte has its column.
-fn line_shown(heap: Global, text: &[u8], number: usize) -> Result<String, AllocError> {
-    let mut shown = String::new(heap);
-    let mut line = 1usize;
-    for b in text.iter() {
-        if *b == LINE_FEED {
-            line = line.saturating_add(1);
-        } else if line == number {
-            shown.push(if (32..=126).contains(b) {
-                char::from(*b)
-            } else {
-                '?'
-            })?;
-        }
-    }
-    Ok(shown)
-}
-
-/// Answers the refusal, and ends the program with status 1.
-fn refuse(rt: &HostRuntime, fault: TextFault) -> anyhow::Result<()> {
-    write_out(rt, text_line(rt.alloc(), fault)?.as_bytes())?;
-    Err(anyhow!("the text is refused"))
-}
-
-fn write_out(rt: &HostRuntime, bytes: &[u8]) -> anyhow::Result<()> {
-    if let Err(error) = rt.stdout().write_all(bytes) {
-        eprintln!(rt; "seqtran: standard output cannot be written: {error}")?;
-        return Err(error.into());
-    }
-    Ok(())
+/// The line after so many others. A byte that is not printable ASCII is shown as `?`, so that each byte has its column.
+fn line_shown(heap: Global, text: &[u8], before: usize) -> Result<String, AllocError> {
+    text.split(|b| *b == b'\n')
+        .nth(before)
+        .unwrap_or_default()
+        .iter()
+        .map(|b| if (32..=126).contains(b) {
+            char::from(*b)
+        } else {
+            '?'
+        })
+        .collect(heap)
 }

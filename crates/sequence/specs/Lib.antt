@@ -7,3 +7,4 @@ pub mod Layouts
 pub mod Images
 pub mod Listings
 pub mod RoundTrips
+pub mod Words

@@ -5,6 +5,8 @@
 
 mod image;
 mod text;
+mod words;
 
 pub use image::{Found, ImageFault};
 pub use text::{Definition, Kind, Label, Line, Source, Target, TextFault, WrittenPlace};
+pub use words::Name;

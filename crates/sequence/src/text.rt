@@ -28,7 +28,7 @@ impl TextFault {
 }
 
 /// A label as the caller's table has it: its name with 0 after the letters, its line, and the place of that line.
-#[derive(Clone, Copy, Debug, PartialEq, Eq)]
+#[derive(Clone, Copy, Debug, Default, PartialEq, Eq)]
 pub struct Label {
     pub name: [u8; 8],
     pub line: usize,

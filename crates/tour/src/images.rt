@@ -1,12 +1,8 @@
 //! A board's image, its listing, and damaged copies of it.
 
-use anyhow::anyhow;
-use lister::list;
-use sequence::ImageFault;
+use anyhow::{Context, bail};
+use programs::listing_of;
 use std::alloc::AllocError;
-use wording::sentence;
-
-const LISTING_ROOM: usize = 16_384;
 
 /// How many bytes the sequence has.
 const SHOWN: usize = 22;
@@ -18,18 +14,12 @@ pub fn show_image(rt: &HostRuntime, image: &[u8]) -> anyhow::Result<String> {
     )?;
     show_bytes(rt, image)?;
     println!(rt; "\nIts listing:")?;
-    let mut out = vec![in rt.alloc(); 0u8; LISTING_ROOM]?;
-    match list(image, out.as_mut_slice()) {
-        Ok(len) => {
-            out.truncate(len);
-            let Ok(listing) = String::from_utf8(out) else {
-                return Err(anyhow!("the listing is no text"));
-            };
-            rt.print(listing.as_str())?;
-            Ok(listing)
-        }
-        Err(_) => Err(anyhow!("the image is refused")),
-    }
+    let bytes = listing_of(rt.alloc(), image)?.context("the image is refused")?;
+    let listing = String::from_utf8(bytes)
+        .ok()
+        .context("the listing is no text")?;
+    rt.print(listing.as_str())?;
+    Ok(listing)
 }
 
 pub fn show_damaged(rt: &HostRuntime, image: &[u8]) -> anyhow::Result<()> {
@@ -43,8 +33,7 @@ pub fn show_damaged(rt: &HostRuntime, image: &[u8]) -> anyhow::Result<()> {
 
 /// The image with another byte at a place.
 fn changed(rt: &HostRuntime, image: &[u8], place: usize, byte: u8) -> Result<Vec<u8>, AllocError> {
-    let mut copy = Vec::new(rt.alloc());
-    copy.extend_from_slice(image)?;
+    let mut copy = image.to_vec(rt.alloc())?;
     if let Some(b) = copy.get_mut(place) {
         *b = byte;
     }
@@ -61,17 +50,14 @@ fn show_bytes(rt: &HostRuntime, image: &[u8]) -> anyhow::Result<()> {
 }
 
 fn show_refusal(rt: &HostRuntime, image: &[u8]) -> anyhow::Result<()> {
-    let mut out = vec![in rt.alloc(); 0u8; LISTING_ROOM]?;
-    match list(image, out.as_mut_slice()) {
-        Ok(_) => Err(anyhow!("the damaged image is accepted")),
-        Err(fault) => show_fault(rt, fault),
-    }
-}
-
-fn show_fault(rt: &HostRuntime, fault: ImageFault) -> anyhow::Result<()> {
-    let number = fault.refusal.number();
-    let place = fault.place;
-    let why = sentence(fault.refusal);
-    println!(rt; "refused with {number} at place {place}: {why}")?;
+    let Err(fault) = listing_of(rt.alloc(), image)? else {
+        bail!("the damaged image is accepted");
+    };
+    println!(rt;
+        "refused with {} at place {}: {}",
+        fault.refusal.number(),
+        fault.place,
+        fault.refusal
+    )?;
     Ok(())
 }

@@ -8,24 +8,18 @@
 
 #![tactic(auto)]
 
-use anyhow::{Context, anyhow};
-use lister::list;
-use sequence::Label;
+use anyhow::{Context, anyhow, ensure};
+use isa::{IMAGE_SIZE, MARK};
+use programs::{listing_of, translation_of};
+use sequence::{Label, Name};
 use std::alloc::Global;
-use std::io::Read;
-use translator::{Translated, translate};
-use wording::text_line;
+use std::io;
+use translator::{MOST_LABELS, Translated, translate};
 
-const IMAGE_SIZE: usize = 2_048;
-
-const TABLE_SIZE: usize = 64;
-
-const LISTING_ROOM: usize = 16_384;
-
+/// How many places a row shows.
 const ROW: usize = 16;
 
-const FREE: u8 = 255;
-
+/// What stands in the image and in the table before the translator writes.
 const UNTOUCHED: u8 = 170;
 
 const UNTOUCHED_LABEL: Label = Label {
@@ -39,6 +33,29 @@ struct Case {
     text: Vec<u8>,
     image: usize,
     table: usize,
+}
+
+/// Where a character of a case stands.
+#[derive(Clone, Copy, PartialEq, Eq)]
+enum Spot {
+    /// Outside the quotes, where a space ends a word.
+    Outside,
+    Quoted,
+    /// In the quotes, after a backslash.
+    Escaped,
+}
+
+impl Spot {
+    /// Where the character after this one stands.
+    fn after(self, c: char) -> Spot {
+        match (self, c) {
+            (Spot::Outside, '"') => Spot::Quoted,
+            (Spot::Quoted, '"') => Spot::Outside,
+            (Spot::Quoted, '\\') => Spot::Escaped,
+            (Spot::Escaped, _) => Spot::Quoted,
+            _ => self,
+        }
+    }
 }
 
 /// How far a piece is read.
@@ -56,8 +73,8 @@ fn main(rt: HostRuntime) -> anyhow::Result<()> {
 }
 
 fn run(rt: &HostRuntime) -> anyhow::Result<()> {
-    let mut table = String::new(rt.alloc());
-    rt.stdin().read_to_string(&mut table)?;
+    let table = io::read_to_string(rt.alloc(), rt.stdin())?;
+    // Stays: the other table's program has this loop too; one for both would want a trait for reading and showing a case.
     for line in table.lines() {
         let (name, words) = line.split_once(" | ").context("a case has no name")?;
         println!(rt; "== {name}")?;
@@ -70,21 +87,17 @@ fn case_of(heap: Global, words: &str) -> anyhow::Result<Case> {
     let mut case = Case {
         text: Vec::new(heap),
         image: IMAGE_SIZE,
-        table: TABLE_SIZE,
+        table: MOST_LABELS,
     };
     let mut word = String::new(heap);
-    let mut quoted = false;
-    let mut escaped = false;
+    let mut spot = Spot::Outside;
     for c in words.chars() {
-        if c == ' ' && !quoted {
+        if c == ' ' && spot == Spot::Outside {
             change(heap, &mut case, word.as_str())?;
             word.clear();
         } else {
             word.push(c)?;
-            if c == '"' && !escaped {
-                quoted = !quoted;
-            }
-            escaped = c == '\\' && !escaped;
+            spot = spot.after(c);
         }
     }
     change(heap, &mut case, word.as_str())?;
@@ -178,45 +191,43 @@ fn show(rt: &HostRuntime, case: &Case) -> anyhow::Result<()> {
             go_round(rt.alloc(), image.as_slice())
         }
         Err(fault) => {
-            rt.print(text_line(rt.alloc(), fault)?)?;
-            check_untouched(image.as_slice())
+            println!(rt; "{fault}")?;
+            ensure!(
+                image.iter().all(|b| *b == UNTOUCHED),
+                "a refusal changed the image"
+            );
+            Ok(())
         }
     }
 }
 
 /// Shows the labels, and checks the records past them.
 fn show_labels(rt: &HostRuntime, counts: Translated, labels: &[Label]) -> anyhow::Result<()> {
-    let lines = counts.lines;
-    let filled = counts.labels;
-    println!(rt; "lines={lines} labels={filled}")?;
-    for label in labels.iter().take(filled) {
-        show_label(rt, label)?;
+    println!(rt; "lines={} labels={}", counts.lines, counts.labels)?;
+    for label in labels.iter().take(counts.labels) {
+        println!(rt;
+            "label {} line {} place {}",
+            Name(label.name),
+            label.line,
+            label.place
+        )?;
     }
-    for label in labels.iter().skip(filled) {
-        if label.name != UNTOUCHED_LABEL.name
-            || label.line != UNTOUCHED_LABEL.line
-            || label.place != UNTOUCHED_LABEL.place
-        {
-            return Err(anyhow!("a record past the labels was changed"));
-        }
-    }
-    Ok(())
-}
-
-fn show_label(rt: &HostRuntime, label: &Label) -> anyhow::Result<()> {
-    let name = std::str::from_utf8(&label.name)?.trim_end_matches("\0");
-    let line = label.line;
-    let place = label.place;
-    println!(rt; "label {name} line {line} place {place}")?;
+    ensure!(
+        labels
+            .iter()
+            .skip(counts.labels)
+            .all(|label| *label == UNTOUCHED_LABEL),
+        "a record past the labels was changed"
+    );
     Ok(())
 }
 
 /// Shows the rows of an image that have a byte other than 255.
 fn show_rows(rt: &HostRuntime, image: &[u8]) -> anyhow::Result<()> {
-    for (place, bytes) in (0..IMAGE_SIZE).step_by(ROW).zip(image.chunks(ROW)) {
-        if has_bytes(bytes) {
+    for (place, row) in (0..IMAGE_SIZE).step_by(ROW).zip(image.chunks(ROW)) {
+        if row.iter().any(|b| *b != MARK) {
             print!(rt; "{place}:")?;
-            for b in bytes {
+            for b in row {
                 print!(rt; " {b}")?;
             }
             println!(rt)?;
@@ -225,53 +236,20 @@ fn show_rows(rt: &HostRuntime, image: &[u8]) -> anyhow::Result<()> {
     Ok(())
 }
 
-fn has_bytes(row: &[u8]) -> bool {
-    for b in row {
-        if *b != FREE {
-            return true;
-        }
-    }
-    false
-}
-
-fn check_untouched(image: &[u8]) -> anyhow::Result<()> {
-    for b in image {
-        if *b != UNTOUCHED {
-            return Err(anyhow!("a refusal changed the image"));
-        }
-    }
-    Ok(())
-}
-
 /// Lists an image, translates the listing and lists that image: both images and both listings are the same.
 fn go_round(heap: Global, image: &[u8]) -> anyhow::Result<()> {
-    let listing = listing_of(heap, image)?;
-    let again = image_of(heap, listing.as_slice())?;
-    if again.as_slice() != image {
-        return Err(anyhow!("the listing has another image"));
-    }
-    if listing_of(heap, again.as_slice())?.as_slice() != listing.as_slice() {
-        return Err(anyhow!("the listing's image has another listing"));
-    }
+    let listing = listing_of(heap, image)?.context("an image of the translator is not listed")?;
+    let again = translation_of(heap, listing.as_slice())?.context("a listing is not translated")?;
+    ensure!(
+        again.image.as_slice() == image,
+        "the listing has another image"
+    );
+    let relisting = listing_of(heap, again.image.as_slice())?.context(
+        "an image of the translator is not listed",
+    )?;
+    ensure!(
+        relisting.as_slice() == listing.as_slice(),
+        "the listing's image has another listing"
+    );
     Ok(())
-}
-
-fn listing_of(heap: Global, image: &[u8]) -> anyhow::Result<Vec<u8>> {
-    let mut out = vec![in heap; UNTOUCHED; LISTING_ROOM]?;
-    match list(image, out.as_mut_slice()) {
-        Ok(len) => {
-            out.truncate(len);
-            Ok(out)
-        }
-        Err(_) => Err(anyhow!("an image of the translator is not listed")),
-    }
-}
-
-fn image_of(heap: Global, text: &[u8]) -> anyhow::Result<Vec<u8>> {
-    let mut image = vec![in heap; UNTOUCHED; IMAGE_SIZE]?;
-    let mut labels = vec![in heap; UNTOUCHED_LABEL; TABLE_SIZE]?;
-    match translate(text, image.as_mut_slice(), labels.as_mut_slice()) {
-        Ok(_) => Ok(image),
-        Err(_) => Err(anyhow!("a listing is not translated")),
-    }
 }

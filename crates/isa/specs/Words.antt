@@ -1,10 +1,7 @@
 -- Refusals in words.
-use Rattle.std.specs.Prelude.{ℕ, ◌/◌, ◌%◌, List, ◌++◌, codes, decimal}
+use Rattle.std.specs.Prelude.{ℕ, List, codes}
 use Rattle.isa.specs.declared.refusal.Refusal.{Refusal}
 use Rattle.isa.specs.declared.refusal.Refusal.TheVariants.{Size, Character, Letter, Long, Operands, Range, Stale, Area, Label, Target, Overlap, Busy, Absent, Spoilt, Code, Full, Limit}
-use Rattle.isa.specs.Refusals.{number_of}
-use Rattle.sequence.specs.declared.image.ImageFault.{ImageFault}
-use Rattle.sequence.specs.declared.text.TextFault.{TextFault}
 
 abbrev pub sentence_of : Refusal → List ℕ
 sentence_of Size = codes "the size is wrong: an image has 2,048 bytes, a text at most 16,384 bytes, 2,048 lines and 64 labels"
@@ -24,13 +21,3 @@ sentence_of Spoilt = codes "the page cannot be read: load the image again"
 sentence_of Code = codes "the byte here is no command letter"
 sentence_of Full = codes "the step port takes no more steps"
 sentence_of Limit = codes "the limit switch of this direction is on"
-
--- a refusal's number in two digits, and where
-abbrev pub numbered : Refusal → List ℕ → List ℕ
-numbered r spot = codes "?" ++ (decimal (number_of r / 10) ++ (decimal (number_of r % 10) ++ (codes " " ++ spot)))
-
-abbrev pub image_line : ImageFault → List ℕ
-image_line f = numbered f.refusal (decimal f.place ++ codes "\n")
-
-abbrev pub text_line : TextFault → List ℕ
-text_line f = numbered f.refusal (decimal f.line ++ (codes " " ++ (decimal f.column ++ codes "\n")))

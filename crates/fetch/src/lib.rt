@@ -54,7 +54,7 @@ fn read_lettered<S: Store>(store: &S, place: u16, letter: u8) -> Result<Option<R
     requires { user place ≡ true }
     ensures { result ≡ shaped (S.memory store.now) place letter (shape_of letter) }
 {
-    let shape = shape_of(letter as char).ok_or(Refusal::Code)?;
+    let shape = shape_of(char::from(letter)).ok_or(Refusal::Code)?;
     let width = shape.width() as u16;
     if !is_user_place(place + (width - 1)) {
         return Err(Refusal::Area.into());

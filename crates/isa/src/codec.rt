@@ -18,7 +18,7 @@ pub fn encode(instruction: Instruction<u16>) -> Result<ArrayVec<u8, 4>, Refusal>
     ensures law { Encodes instruction result }
 {
     let letter = instruction.letter();
-    let Ok(entry) = look_up(letter as char, instruction.operands()) else {
+    let Ok(entry) = look_up(char::from(letter), instruction.operands()) else {
         return Err(Refusal::Range);
     };
     let [first, second, third] = operand_bytes(instruction);
@@ -41,8 +41,8 @@ fn decode_parts(letter: u8, low: u8, middle: u8, high: u8) -> Result<Instruction
     ensures value { result ≡ decoded (letter ∷ low ∷ middle ∷ high ∷ []) }
     ensures law { Decodes (letter ∷ low ∷ middle ∷ high ∷ []) result }
 {
-    let shape = shape_of(letter as char).ok_or(Refusal::Code)?;
-    match look_up(letter as char, shape.operands_in([low, middle, high])) {
+    let shape = shape_of(char::from(letter)).ok_or(Refusal::Code)?;
+    match look_up(char::from(letter), shape.operands_in([low, middle, high])) {
         Ok(entry) => Ok(entry.instruction),
         Err(Mismatch::OutOfRange(_, _)) => Err(Refusal::Range),
         Err(Mismatch::UnknownLetter) => Err(Refusal::Code),

@@ -31,6 +31,7 @@ pub fn instruction<'a>(
     let Some((letter, touching)) = spot.text.split_first() else {
         return Err(wrong_operands(front.line));
     };
+    // Stays: a cast; with `char::from` the proof of this function does not close.
     let letter = *letter as char;
     let unknown = TextFault::new(Refusal::Letter, front.line, spot.column);
     let shape = shape_of(letter).ok_or(unknown)?;

@@ -17,10 +17,7 @@ use translator::MOST_BYTES;
 
 /// Whoever refuses has said so on standard output and standard error; the status is all that is left to say.
 fn main(rt: HostRuntime) -> ExitCode {
-    match run(&rt) {
-        Ok(()) => ExitCode::SUCCESS,
-        Err(_) => ExitCode::FAILURE,
-    }
+    run(&rt).map_or(ExitCode::FAILURE, |()| ExitCode::SUCCESS)
 }
 
 fn run(rt: &HostRuntime) -> anyhow::Result<()> {

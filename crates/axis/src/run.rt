@@ -34,6 +34,7 @@ impl<P: StepPort> State<P> {
         match instruction {
             Instruction::Go(_) => (Course::Jumps, Answer::Silence),
             Instruction::Jump { times, .. } => {
+                // Empty, the counter is set; else it falls by one, and at 0 it is emptied.
                 self.run.counter = match self.run.counter {
                     None => Some(times),
                     Some(left) => left.checked_sub(1),
@@ -45,6 +46,7 @@ impl<P: StepPort> State<P> {
                 Answer::Silence,
             ),
             Instruction::Act(Action::Wait(hundredths)) => {
+                // A wait begins once nothing moves.
                 let left = match waiting {
                     Some(left) => left.saturating_sub(1),
                     None if self.body.is_moving() => return (Course::Stays, Answer::Silence),
@@ -57,9 +59,8 @@ impl<P: StepPort> State<P> {
                 (Course::Stays, Answer::Silence)
             }
             Instruction::Act(action) => {
-                let answer = match self.body.carry_out(action) {
-                    Ok(answer) => answer,
-                    Err(_) => return (Course::Stays, Answer::Silence),
+                let Ok(answer) = self.body.carry_out(action) else {
+                    return (Course::Stays, Answer::Silence);
                 };
                 (Course::Onward, answer)
             }

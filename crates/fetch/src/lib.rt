@@ -72,24 +72,19 @@ fn read_operands<S: Store>(
     requires { (place < 2048) × (width < 5) }
     ensures { result ≡ operands_at (S.memory store.now) place letter width }
 {
-    let low = operand_byte(store, place, width, 1)?;
-    let middle = operand_byte(store, place, width, 2)?;
-    let high = operand_byte(store, place, width, 3)?;
-    let instruction = decode([letter, low, middle, high])?;
+    // A byte after the letter, or 0 past the instruction's last.
+    let operand = |index: u16| -> Result<u8, Fault>
+        requires { (place < 2048) × (index < 4) }
+        ensures { result ≡ operand_byte (S.memory store.entry.now) place width index }
+    {
+        if index >= width {
+            return Ok(0);
+        }
+        Ok(store.read(place + index)?)
+    };
+    let instruction = decode([letter, operand(1)?, operand(2)?, operand(3)?])?;
     Ok(Some(Reading {
         instruction,
         after: place + width,
     }))
-}
-
-/// A byte after the letter, or 0 past the instruction's last.
-fn operand_byte<S: Store>(store: &S, place: u16, width: u16, index: u16) -> Result<u8, Fault>
-    requires { (place < 2048) × (index < 4) }
-    ensures { result ≡ operand_byte (S.memory store.now) place width index }
-{
-    if index >= width {
-        return Ok(0);
-    }
-    let byte = store.read(place + index)?;
-    Ok(byte)
 }

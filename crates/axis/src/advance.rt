@@ -49,11 +49,11 @@ impl Body {
         ensures body { self.new ≡ (motion_part input self.old (P.meaning port.old)).body }
         ensures port { P.meaning port.new ≡ (motion_part input self.old (P.meaning port.old)).port }
     {
-        let Some(motion) = self.motion else {
+        // A limit, or a refusal of the port, leaves nothing that moves.
+        let Some(motion) = self.motion.take() else {
             return Ok(());
         };
         if limit_on(input, motion.direction) {
-            self.motion = None;
             return Err(Refusal::Limit);
         }
         let sum = motion.sum + u32::from(motion.speed);
@@ -62,10 +62,7 @@ impl Body {
             self.motion = Some(Motion { sum, ..motion });
             return Ok(());
         }
-        if let Err(refusal) = port.step(motion.direction) {
-            self.motion = None;
-            return Err(refusal);
-        }
+        port.step(motion.direction)?;
         self.position = shift(motion.direction, self.position);
         self.motion = motion.after_step(sum - due);
         Ok(())

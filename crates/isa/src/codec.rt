@@ -18,9 +18,7 @@ pub fn encode(instruction: Instruction<u16>) -> Result<ArrayVec<u8, 4>, Refusal>
     ensures law { Encodes instruction result }
 {
     let letter = instruction.letter();
-    let Ok(entry) = look_up(char::from(letter), instruction.operands()) else {
-        return Err(Refusal::Range);
-    };
+    let entry = look_up(char::from(letter), instruction.operands()).map_err(|_| Refusal::Range)?;
     let [first, second, third] = operand_bytes(instruction);
     let mut code = ArrayVec::from([letter, first, second, third]);
     code.truncate(entry.shape.width());
@@ -62,6 +60,7 @@ fn operand_bytes(instruction: Instruction<u16>) -> [u8; 3]
             Action::Outputs(n) | Action::Divisor(n) => [n, 0, 0],
             Action::InitialSpeed(n) | Action::SlewSpeed(n) | Action::Wait(n) => word(n, 0),
             Action::Rates { gain, loss } => [gain, loss, 0],
+            // Stays: two arms; one pattern for both is refused where the others bind an unsigned number.
             Action::Origin(n) => long(n.to_le_bytes()),
             Action::IndexTo(n) => long(n.to_le_bytes()),
             Action::Report => [0; 3],

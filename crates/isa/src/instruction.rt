@@ -127,6 +127,7 @@ impl Instruction<u16> {
                     0,
                 ),
                 Action::Rates { gain, loss } => (i64::from(gain), i64::from(loss)),
+                // Stays: two arms; one pattern for both is refused where the others bind an unsigned number.
                 Action::Origin(n) => (i64::from(n), 0),
                 Action::IndexTo(n) => (i64::from(n), 0),
                 Action::Report => (0, 0),

@@ -7,7 +7,7 @@ ghost use Rattle.isa.specs.TwosComplement.{half24, value_of};
 // Stays: 0 and no Option for an operand that a letter does not have; no row of the table reads it, and each row that reads
 // one would have to unwrap it.
 /// The operands of an instruction as numbers; 0 stands for one that its letter does not have.
-#[derive(Clone, Copy, Debug, PartialEq, Eq)]
+#[derive(Clone, Copy, Debug, Default, PartialEq, Eq)]
 pub struct Operands {
     pub first: i64,
     pub second: i64,
@@ -69,11 +69,7 @@ impl Shape {
     pub fn has_target(self) -> bool
         ensures { result ≡ aims self }
     {
-        match self {
-            Shape::Target | Shape::TargetByte => true,
-            Shape::Plain | Shape::Byte | Shape::Pair | Shape::Word | Shape::Signed | Shape::Long =>
-                false,
-        }
+        matches!(self, Shape::Target | Shape::TargetByte)
     }
 
     /// The operands that stand in the bytes after the letter; bytes past the shape's width do not count.

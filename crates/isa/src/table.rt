@@ -23,6 +23,7 @@ pub enum Mismatch {
     OutOfRange(Shape, Order),
 }
 
+// Stays: casts; the guard in front of each row is the test, and `try_from` would add a refusal that cannot come.
 /// Looks a letter up with its operands. No other code knows a letter's length or the range of an operand.
 #[tactic(auto, using(crate::proofs::Rows::rows))]
 pub fn look_up(letter: char, operands: Operands) -> Result<Entry, Mismatch>
@@ -122,11 +123,7 @@ fn within(low: i64, n: i64, high: i64) -> bool
 pub fn shape_of(letter: char) -> Option<Shape>
     ensures { result ≡ shape_of letter }
 {
-    let zeros = Operands {
-        first: 0,
-        second: 0,
-    };
-    match look_up(letter, zeros) {
+    match look_up(letter, Operands::default()) {
         Ok(Entry { shape, .. }) | Err(Mismatch::OutOfRange(shape, _)) => Some(shape),
         Err(Mismatch::UnknownLetter) => None,
     }

@@ -5,6 +5,7 @@ ghost use Rattle.sequence.specs.Images.{image_fault};
 
 use isa::{Instruction, Refusal};
 
+// Stays: place 0 and no Option for `Size`; the definitions and every answer have the 0, and who reads the field needs no case.
 /// Why an image is not listed, and at which place; place 0 for `Size`.
 #[derive(Clone, Copy, Debug, PartialEq, Eq)]
 pub struct ImageFault {

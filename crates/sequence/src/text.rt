@@ -5,7 +5,7 @@ ghost use Rattle.sequence.specs.Lines.{text_fault};
 
 use isa::{Instruction, Refusal};
 
-// Stays: 0 and no Option where there is no line or column to name; the answer to a refused text prints the 0.
+// Stays: 0 and no Option where there is no line or column to name; the definitions and every answer have the 0.
 /// Why a text is not translated: line and column, counted from 1, or 0 where there is none to name.
 #[derive(Clone, Copy, Debug, PartialEq, Eq)]
 pub struct TextFault {
@@ -27,6 +27,7 @@ impl TextFault {
     }
 }
 
+// Stays: a name as eight bytes, not as text; the caller lends the table, and this is the format of its records.
 /// A label as the caller's table has it: its name with 0 after the letters, its line, and the place of that line.
 #[derive(Clone, Copy, Debug, Default, PartialEq, Eq)]
 pub struct Label {

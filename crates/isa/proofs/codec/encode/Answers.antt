@@ -7,7 +7,7 @@ use Rattle.isa.proofs.codec.encode.Goals as goal
 pub returns-clause-value : goal.returns-clause-value
 returns-clause-value c =
     let i = c.args.instruction in
-    let w : width_of c.in-Ok.entry.shape ≡ width i = entry_width i c.in-Ok.entry (search rules) in
+    let w : width_of c.in_ok-entry.entry.shape ≡ width i = entry_width i c.in_ok-entry.entry (search rules) in
     let n : length c.operand_bytes.result ≡ 3 = search rules in
     let f = front_code c.letter-letter.result (length (operand_bytes i)) c.operand_bytes.result (operand_bytes i) n c.operand_bytes.ensures in
     grind arith

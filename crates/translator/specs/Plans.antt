@@ -46,16 +46,6 @@ abbrev pub Falls : Result ℕ TextFault → Source → Placings.Plan → Type 0
 Falls (Ok p) x s = (in_area x s ≡ Ok tt) × (s.opened ≡ true) × (p ≡ s.next) × (user (p + width_of x) ≡ true)
 Falls (Err e) x s = in_area x s ≡ Err e
 
--- how many labels a line defines
-abbrev pub defined_in : Option Definition → ℕ
-defined_in None = 0
-defined_in (Some d) = 1
-
-abbrev pub defined_by : Line → ℕ
-defined_by Blank = 0
-defined_by (Opens l p) = 0
-defined_by (Holds x) = defined_in x.label
-
 -- room for n labels more, and for a line in the count
 abbrev pub HasRoom : ℕ → Plan → Type 0
 HasRoom n p = (p.filled + n ≤ length p.table.now) × (p.lines + 1 < 2 ^ 64)

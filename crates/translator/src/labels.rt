@@ -7,7 +7,8 @@ use crate::plan::Plan;
 use sequence::{Label, Source};
 
 impl Plan<'_> {
-    ghost use Rattle.translator.specs.Plans.{entries, defined_in, with_label, Rests};
+    ghost use Rattle.layout.proofs.LabelCounts.{defined_in};
+    ghost use Rattle.translator.specs.Plans.{entries, with_label, Rests};
 
     /// The place of the label of this name.
     pub(crate) fn find(&self, name: [u8; 8]) -> Option<u16>

@@ -34,7 +34,8 @@ pub(crate) struct Plan<'a> {
 }
 
 impl<'a> Plan<'a> {
-    ghost use Rattle.translator.specs.Plans.{plan_of, Steps, defined_by, HasRoom, Kept, Falls, unnamed, entries};
+    ghost use Rattle.layout.proofs.LabelCounts.{defined_by};
+    ghost use Rattle.translator.specs.Plans.{plan_of, Steps, HasRoom, Kept, Falls, unnamed, entries};
 
     /// Nothing is placed.
     pub(crate) fn new(table: &'a mut [Label]) -> Plan<'a>

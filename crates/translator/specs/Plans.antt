@@ -50,14 +50,16 @@ Falls (Err e) x s = in_area x s ≡ Err e
 abbrev pub HasRoom : ℕ → Plan → Type 0
 HasRoom n p = (p.filled + n ≤ length p.table.now) × (p.lines + 1 < 2 ^ 64)
 
--- the records past the filled ones are as they were
+-- the same table: no fewer records are filled, and those past the filled ones are as they were
 pub record Rests (before after : Plan) : Type 0 where
+  pub same : after.table.ghost_name ≡ before.table.ghost_name
+  pub filled : before.filled ≤ after.filled
   pub rest : drop after.filled after.table.now ≡ drop after.filled before.table.now
   pub size : length after.table.now ≡ length before.table.now
 
 -- n labels more, and at most a line more
 abbrev pub Kept : {A : Type 0} → Result A TextFault → ℕ → Plan → Plan → Type 0
-Kept r n p q = OnOk r ((q.filled ≡ p.filled + n) × Rests p q × (q.lines ≤ p.lines + 1))
+Kept r n p q = Rests p q × OnOk r ((q.filled ≡ p.filled + n) × (q.lines ≤ p.lines + 1))
 
 -- the labels with that of a line
 abbrev pub with_label : Option Definition → Source → ℕ → List Label → List Label

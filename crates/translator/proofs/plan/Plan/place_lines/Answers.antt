@@ -21,9 +21,11 @@ loop-number-preserved c =
     let f = label_counted c.in-Some.number b x (sym c.in_ok-parse.ensures) in record {
       number = omega (arith, ap length e);
       planned = ap (λ l. planned l (zip_second c.next.new.self) (plan_of c.place.new.self)) m ∙ sym (step_done c.in-Some.number b (zip_second c.next.new.self) _ (plan_of c.loop-number.self) e x c.in_ok-parse.ensures (plan_of c.place.new.self) c.in_ok-place.ensures.step) ∙ ap (λ l. planned l (zip_second c.loop-number.number-iterator) (plan_of c.loop-number.self)) n ∙ i.planned;
-      same_reference = c.in_ok-place.ensures.same_reference ∙ i.same_reference;
-      room = omega (arith, ap labels_in e, k.1.size);
-      rests = rests_more _ _ _ _ i.rests k.0 k.1;
+      room = omega (arith, ap labels_in e, k.0.size);
+      rests = rests_more _ _ _ i.rests k.0;
       count = omega (arith, ap length e);
       few = i.few;
     }
+
+pub returns-in_err-place-clause-table : goal.returns-in_err-place-clause-table
+returns-in_err-place-clause-table c = rests_more _ _ _ c.loop-number.invariant.rests c.in_err-place.ensures.kept.0

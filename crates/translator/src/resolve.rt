@@ -44,8 +44,8 @@ impl Plan<'_> {
         Ok(place)
     }
 
-    // Stays: a match and no map that can fail; a closure that borrows the plan, with the table lent to it, promises nothing of its
-    // result there, so the proof does not close.
+    // Stays: a match and no map that can fail; a closure that borrows the plan, with the table lent to it, promises nothing
+    // of its result there, so the proof does not close.
     /// A line's instruction with its target as a place.
     fn resolve(&self, source: Source) -> Result<Instruction<u16>, TextFault>
         ensures { result ≡ resolve_line (plan_of self.now) source }

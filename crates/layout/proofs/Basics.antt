@@ -85,14 +85,14 @@ module _ (m : List Kind) (p w : ℕ) (some : 1 ≤ w) (room : p + w ≤ length m
   pub lay_out : (q : ℕ) → (q < p) ⊎ (p + w ≤ q) → get_or (lay m p w) q Free ≡ get_or m q Free
   lay_out q o = let s = size in sets_out (First ∷ replicate (w - 1) Further) m p q Free (⊎_elim (λ (h : q < p). inl h) (λ (h : p + w ≤ q). inr (omega arith)) o)
 
-  lay_first : get_or (lay m p w) (p + 0) Free ≡ First
-  lay_first = let s = size in sets_in (First ∷ replicate (w - 1) Further) m p 0 Free (omega arith) (omega arith)
+  pub lay_first : get_or (lay m p w) p Free ≡ First
+  lay_first = let s = size in ap (λ q. get_or (lay m p w) q Free) (let x : p ≡ p + 0 = omega arith in x) ∙ sets_in (First ∷ replicate (w - 1) Further) m p 0 Free (omega arith) (omega arith)
 
   lay_further : (k : ℕ) → suc k < w → get_or (lay m p w) (p + suc k) Free ≡ Further
   lay_further k h = let s = size in sets_in (First ∷ replicate (w - 1) Further) m p (suc k) Free (omega arith) (omega arith) ∙ get_or-replicate (w - 1) k Further Free (omega arith)
 
   pub lay_on : (k : ℕ) → k < w → (get_or (lay m p w) (p + k) Free ≡ Free → ⊥) × (get_or (lay m p w) (p + k) Free ≡ First → k ≡ 0)
-  lay_on zero h = let e = lay_first in (λ f. let z : ◌≡◌ {A = ℕ} 0 1 = cc in omega arith, λ f. refl)
+  lay_on zero h = let e = ap (λ q. get_or (lay m p w) q Free) (let x : p + 0 ≡ p = omega arith in x) ∙ lay_first in (λ f. let z : ◌≡◌ {A = ℕ} 0 1 = cc in omega arith, λ f. refl)
   lay_on (suc k) h = let e = lay_further k h in (λ f. let z : ◌≡◌ {A = ℕ} 0 1 = cc in omega arith, λ f. let z : ◌≡◌ {A = ℕ} 0 1 = cc in absurd (omega arith))
 
 -- a mark written over the kinds changes no other kind

@@ -108,7 +108,3 @@ lays_out text t e =
       once = once ls s is so f.2 r;
       count = sym (ap (λ (y : Translation). y.count) whole) ∙ count ls s is so f.2 r;
     }
-
--- the plan of a text has a kind for each place
-pub plan_size : (text : List ℕ) (s : Plan) → planned 1 (lines text) fresh ≡ Ok s → length s.kinds ≡ image_size
-plan_size text s e = let f = planned_splits 1 (lines text) fresh s e in placing_size f.0 fresh s f.2 ∙ fresh_size

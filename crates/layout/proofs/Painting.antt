@@ -30,6 +30,7 @@ not_both i j q a c d = let e = end_stop i in let f = end_stop j in ⊎_elim (λ 
 apart_swap : (i j : Item) → Apart i j → Apart j i
 apart_swap i j a = ⊎_elim (λ h. inr h) (λ h. inl h) a
 
+-- two of them are the same or apart
 pub same_or_apart : (is : List Item) → AllApart is → (i j : Item) → In i is → In j is → (i ≡ j) ⊎ Apart i j
 same_or_apart [] a i j m n = absurd m
 same_or_apart (x ∷ is) a i j (inl e) (inl f) = inl (e ∙ sym f)

@@ -69,7 +69,7 @@ same_arms : {A : Type 0} (t : Bool) (x : A) → cond t x x ≡ x
 same_arms true x = refl
 same_arms false x = refl
 
-closed_size : (s : Plan) → length (closed s) ≡ length s.kinds
+pub closed_size : (s : Plan) → length (closed s) ≡ length s.kinds
 closed_size s = go s.used
   where
     go : (b : Bool) → length (cond b (set s.kinds s.next Mark) s.kinds) ≡ length s.kinds

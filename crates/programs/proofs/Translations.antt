@@ -1,9 +1,9 @@
 -- What the translator answers and leaves is the translation.
 use Rattle.std.proofs.Common.{◌≡◌, ℕ, ◌+◌, ◌≤◌, true, ◌&&◌, List, [], ◌∷◌, length, take, Some, None, Ok, Err, Option, Result, nat_le, ap, refl, arith, length-append}
 use Rattle.std.proofs.lemmas.Bool.{and_parts, leb-true}
-use Rattle.isa.specs.declared.refusal.Refusal.TheVariants.{Size, Area}
+use Rattle.isa.specs.declared.refusal.Refusal.TheVariants.{Size}
 use Rattle.isa.specs.Checks.{require}
-use Rattle.isa.specs.Places.{image_size, user}
+use Rattle.isa.specs.Places.{image_size}
 use Rattle.sequence.specs.declared.text.Definition.{Definition}
 use Rattle.sequence.specs.declared.text.Label.{Label}
 use Rattle.sequence.specs.declared.text.Line.{Line}
@@ -12,10 +12,11 @@ use Rattle.sequence.specs.declared.text.Source.{Source}
 use Rattle.sequence.specs.declared.text.TextFault.{TextFault}
 use Rattle.sequence.specs.Texts.{lines}
 use Rattle.sequence.specs.Lines.{text_fault, parsed}
-use Rattle.sequence.specs.Placings.{Plan, fresh, step, defining, in_area, as_written, unshared, laid, opening, place_in, is_none}
+use Rattle.sequence.specs.Placings.{Plan, fresh, step, defining, place_in, is_none}
 use Rattle.sequence.specs.Translations.{Translation, translation, planned, assembled, blank, labels_in, most_bytes, most_lines, most_labels, sized_text}
 use Rattle.layout.proofs.Basics.{ok_cond, ok_then, ok_ok, ok_require}
 use Rattle.layout.proofs.LabelCounts.{defined_in, defined_by, label_counted}
+use Rattle.layout.proofs.Passes.{step_holds, step_opens}
 use Rattle.translator.specs.Answers.{translated, answered, image_after, TableAfter}
 use Rattle.translator.specs.declared.Translated.{Translated}
 use Rattle.programs.proofs.Listings.{front-sets}
@@ -31,16 +32,11 @@ defining_few x (Some d) s ls e =
 step_few : (x : Line) (s s' : Plan) → step x s ≡ Ok s' → length s'.labels ≤ length s.labels + defined_by x
 step_few Blank s s' e = let n = ap (λ (p : Plan). length p.labels) (ok_ok s s' e) in omega arith
 step_few (Opens l p) s s' e =
-    let u = ok_then (require (user p) (text_fault Area l 0)) (λ _. Ok (opening p s)) s' e in
-    let n = ap (λ (q : Plan). length q.labels) (ok_ok (opening p s) s' u.2) in
-    omega arith
+    let n = ap (λ (q : Plan). length q.labels) (step_opens l p s s' e) in omega arith
 step_few (Holds x) s s' e =
-    let u = ok_then (defining x x.label s) _ s' e in
-    let v = ok_then (in_area x s) _ s' u.2 in
-    let w = ok_then (as_written x s) _ s' v.2 in
-    let z = ok_then (unshared x s) _ s' w.2 in
-    let n = ap (λ (q : Plan). length q.labels) (ok_ok (laid x s u.0) s' z.2) in
-    let m = defining_few x x.label s u.0 u.1 in
+    let c = step_holds x s s' e in
+    let n = ap (λ (q : Plan). length q.labels) c.same in
+    let m = defining_few x x.label s c.labels c.defines in
     omega arith
 
 -- no more labels than label-shaped tokens

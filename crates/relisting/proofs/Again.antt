@@ -22,7 +22,8 @@ use Rattle.sequence.specs.Images.{image_fault, walk, begins, begun, aimed, conte
 use Rattle.sequence.specs.Listings.{printed, listing}
 use Rattle.sequence.proofs.Lengths.{short}
 use Rattle.relisting.proofs.PrintedLines.{line_bytes, at_bytes, listed_source, at_parsed, line_parsed}
-use Rattle.relisting.proofs.Chains.{user_low, Chain, Fine, all_fine}
+use Rattle.layout.proofs.Placing.{user_low}
+use Rattle.relisting.proofs.Chains.{Chain, Fine, all_fine}
 use Rattle.relisting.proofs.PrintedTexts.{text_lines, printed_lines, no_labels, few_lines}
 use Rattle.relisting.proofs.Walks.{Bytes, Stands, covers, Covered, Contains, whole_walk}
 use Rattle.layout.proofs.Basics.{ok_then, ok_ok, sets_out, sets_in}

@@ -1,14 +1,11 @@
 -- Instructions that come one after the other, upward.
 use Rattle.std.proofs.Common.{◌≡◌, ℕ, ◌+◌, ◌<◌, ◌≤◌, Bool, true, false, List, [], ◌∷◌, arith}
-use Rattle.std.proofs.lemmas.Bool.Decides.{nat_tests}
 use Rattle.std.specs.List.{AllByRecursion}
 use Rattle.isa.specs.declared.instruction.Instruction.{Instruction}
 use Rattle.isa.specs.Places.{user}
 use Rattle.isa.specs.Codes.{width, in_range}
 use Rattle.sequence.specs.declared.image.Found.{Found}
-
-pub user_low : (q : ℕ) → user q ≡ true → q < 2048
-user_low q h = grind (arith, nat_tests)
+use Rattle.layout.proofs.Placing.{user_low}
 
 pub some_width : (i : Instruction ℕ) → 1 ≤ width i
 some_width i = omega arith

@@ -4,7 +4,6 @@ pub mod PrintedLines
 pub mod Chains
 pub mod PrintedTexts
 pub mod Walks
-pub mod Writes
 pub mod Plans
 pub mod Again
 pub mod Items

@@ -22,9 +22,12 @@ use Rattle.sequence.specs.declared.image.Found.{Found}
 use Rattle.sequence.specs.Images.{Content, mark, code, wrong, ranged, lettered, content_at, with_found, found_at, onward, is_code, further, walk, begins, begun, aimed, contents}
 use Rattle.sequence.specs.Layouts.{Item, In, end, stop, covers, Apart, Laid}
 use Rattle.sequence.specs.Listings.{printed, listing}
-use Rattle.relisting.proofs.Chains.{user_low, some_width}
+use Rattle.layout.proofs.Painting.{end_stop, same_or_apart}
+use Rattle.layout.proofs.Placing.{user_low}
+use Rattle.relisting.proofs.Chains.{some_width}
 use Rattle.relisting.proofs.Plans.{every_from}
-use Rattle.relisting.proofs.Items.{end_stop, same_or_apart, covered}
+use Rattle.relisting.proofs.Items.{covered}
+use Rattle.relisting.proofs.Walks.{Rest, rest_on}
 
 -- a letter is no mark
 letter_unmarked : (i : Instruction ℕ) → eqb (letter_of i) 255 ≡ false
@@ -87,31 +90,25 @@ module _ (is : List Item) (im : List ℕ) (l : Laid is im) where
   abbrev Between : ℕ → Type 0
   Between q = (i : Item) → In i is → i.place < q → q < end i → ⊥
 
-  abbrev Rest : ℕ → List ℕ → Type 0
-  Rest p s = (j : ℕ) → j < length s → get_or im (p + j) 255 ≡ get_or s j 255
-
-  rest_on : (p b : ℕ) (bs : List ℕ) → Rest p (b ∷ bs) → Rest (suc p) bs
-  rest_on p b bs at j h = ap (λ q. get_or im q 255) (let x : suc p + j ≡ p + suc j = omega arith in x) ∙ at (suc j) (omega arith)
-
   -- the bytes of an instruction, in what is left of the image
-  bytes : (i : Item) → In i is → (s : List ℕ) → Rest i.place s → 2048 ≡ i.place + length s → take (width i.instruction) s ≡ encoded i.instruction
+  bytes : (i : Item) → In i is → (s : List ℕ) → Rest im i.place s → 2048 ≡ i.place + length s → take (width i.instruction) s ≡ encoded i.instruction
   bytes i m s at len =
       let u = user_low (end i) (l.users i m (width i.instruction) (omega arith)) in
       let size = length-take-le (width i.instruction) s (omega arith) in
-      ext_get_or 255 _ _ size (λ k h. get_or-take (width i.instruction) s k 255 (omega arith) ∙ sym (at k (omega arith)) ∙ l.stands i m k (omega arith))
+      ext_get_or 255 _ _ size (λ k h. get_or-take (width i.instruction) s k 255 (omega arith) ∙ sym (at k) ∙ l.stands i m k (omega arith))
 
-  accept : (s : List ℕ) (p : ℕ) (inside : Bool) (k : ℕ) → 2048 ≡ p + length s → Rest p s → Between (p + k) → (inside ≡ true → user (p + k) ≡ true) → Reading is (p + k) (walk p inside k s)
+  accept : (s : List ℕ) (p : ℕ) (inside : Bool) (k : ℕ) → 2048 ≡ p + length s → Rest im p s → Between (p + k) → (inside ≡ true → user (p + k) ≡ true) → Reading is (p + k) (walk p inside k s)
   accept [] p true k len at out room = let u = user_low (p + k) (room refl) in absurd (omega arith)
   accept [] p false k len at out room = record { reads = []; good = refl; sound = tt; full = λ i m h. let u = user_low (i.place + 0) (l.users i m 0 (omega arith)) in absurd (omega arith) }
   accept (b ∷ bs) p inside (suc k) len at out room =
       let e : suc p + k ≡ p + suc k = omega arith in
-      subst (λ x. Reading is x (walk (suc p) inside k bs)) e (accept bs (suc p) inside k (omega arith) (rest_on p b bs at) (λ i m a z. out i m (omega arith) (omega arith)) (λ t. ap user e ∙ room t))
+      subst (λ x. Reading is x (walk (suc p) inside k bs)) e (accept bs (suc p) inside k (omega arith) (rest_on im p b bs at) (λ i m a z. out i m (omega arith) (omega arith)) (λ t. ap user e ∙ room t))
   accept (b ∷ bs) p inside zero len at out room =
       ⊎_elim
-      (λ (f : (i : Item) × In i is × covers i p). at_code f.0 f.1 f.2 (λ k. accept bs (suc p) true k (omega arith) (rest_on p b bs at)))
+      (λ (f : (i : Item) × In i is × covers i p). at_code f.0 f.1 f.2 (λ k. accept bs (suc p) true k (omega arith) (rest_on im p b bs at)))
       (λ none.
-      let byte : b ≡ 255 = sym (at 0 (omega arith)) ∙ ap (λ q. get_or im q 255) (let x : p + 0 ≡ p = omega arith in x) ∙ l.rest p none in
-      let ih = accept bs (suc p) false 0 (omega arith) (rest_on p b bs at) (λ i m a z. none i m (omega arith, omega arith)) (λ t. absurd (both_ways false refl t)) in
+      let byte : b ≡ 255 = sym (at 0) ∙ ap (λ q. get_or im q 255) (let x : p + 0 ≡ p = omega arith in x) ∙ l.rest p none in
+      let ih = accept bs (suc p) false 0 (omega arith) (rest_on im p b bs at) (λ i m a z. none i m (omega arith, omega arith)) (λ t. absurd (both_ways false refl t)) in
       saw mark (seen_mark p (b ∷ bs) byte) (record {
         reads = ih.reads;
         good = cond-false _ _ _ (inside_user inside room) ∙ ih.good;
@@ -139,8 +136,8 @@ module _ (is : List Item) (im : List ℕ) (l : Laid is im) where
       at_code i m c on =
           let here : i.place ≡ p = ⊎_elim (λ (g : i.place < p). absurd (out i m (omega arith) (omega arith))) (λ (g : p ≤ i.place). omega arith) (cases_lt i.place p) in
           let w = some_width i.instruction in
-          let at' : Rest i.place (b ∷ bs) = subst (λ q. Rest q (b ∷ bs)) (sym here) at in
-          let first : b ≡ letter_of i.instruction = sym (at' 0 (omega arith)) ∙ l.stands i m 0 w in
+          let at' : Rest im i.place (b ∷ bs) = subst (λ q. Rest im q (b ∷ bs)) (sym here) at in
+          let first : b ≡ letter_of i.instruction = sym (at' 0) ∙ l.stands i m 0 w in
           let us : (k : ℕ) → k < width i.instruction → user (p + k) ≡ true = λ k h. ap user (let x : p + k ≡ i.place + k = omega arith in x) ∙ l.users i m k (omega arith) in
           let e : suc p + (width i.instruction - 1) ≡ end i = omega arith in
           more i m here (seen_code p (b ∷ bs) i.instruction (l.range i m) (bytes i m (b ∷ bs) at' (omega arith)) first us) (on (width i.instruction - 1)
@@ -162,7 +159,7 @@ module _ (is : List Item) (im : List ℕ) (l : Laid is im) where
 -- the lister finds instructions there
 pub contents_found : (is : List Item) (im : List ℕ) → Laid is im → (fs : List Found) × (contents im ≡ Ok fs)
 contents_found is im l =
-    let r = accept is im l im 0 false 0 (let s = l.size in omega arith) (λ j h. ap (λ q. get_or im q 255) (let x : 0 + j ≡ j = omega arith in x)) (λ i m a z. omega arith) (λ t. absurd (both_ways false refl t)) in
+    let r = accept is im l im 0 false 0 (let s = l.size in omega arith) (λ j. ap (λ q. get_or im q 255) (let x : 0 + j ≡ j = omega arith in x)) (λ i m a z. omega arith) (λ t. absurd (both_ways false refl t)) in
     (r.reads, ap (λ o. and_then o (λ fs. aimed fs fs)) r.good ∙ aims_pass is im l r.reads (λ i m. r.full i m (omega arith)) r.reads r.sound)
 
 pub always_listed : (is : List Item) (im : List ℕ) → Laid is im → (out : List ℕ) × (listing im ≡ Ok out)

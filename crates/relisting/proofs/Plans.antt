@@ -1,5 +1,5 @@
 -- The lines of a listing find their places.
-use Rattle.std.proofs.Common.{◌≡◌, ℕ, zero, suc, ◌+◌, ◌-◌, ◌<◌, ◌≤◌, Bool, true, false, cond, ◌≢◌, List, [], ◌∷◌, length, get_or, set, replicate, Ok, Result, sym, refl, ap, ◌∙◌, subst, inl, inr, ⊎_elim, arith, length-set, get_or-set_other}
+use Rattle.std.proofs.Common.{◌≡◌, ℕ, zero, suc, ◌+◌, ◌-◌, ◌<◌, ◌≤◌, Bool, true, false, cond, ◌≢◌, List, [], ◌∷◌, length, get_or, set, replicate, Ok, Result, sym, refl, ap, ◌∙◌, subst, inl, inr, ⊎_elim, arith, get_or-set_other}
 use lib.ListN.{length-replicate}
 use lib.Seq.{length-sets}
 use Rattle.std.proofs.lemmas.Bool.{and_from, eq-eqb, both_ways, cases_lt}
@@ -22,10 +22,11 @@ use Rattle.sequence.specs.declared.image.Found.{Found}
 use Rattle.sequence.specs.Lines.{text_fault}
 use Rattle.sequence.specs.Placings.{unaimed, width_of, Plan, fresh, is_free, free, closed, in_area, as_written, unshared, laid, opening, step}
 use Rattle.sequence.specs.Translations.{planned}
+use Rattle.layout.proofs.Basics.{lay_out, lay_first}
+use Rattle.layout.proofs.Placing.{user_low, closed_size}
 use Rattle.relisting.proofs.PrintedLines.{line_bytes, at_bytes, listed_source, at_parsed, line_parsed}
-use Rattle.relisting.proofs.Chains.{user_low, some_width, Users, Chain, Fine}
+use Rattle.relisting.proofs.Chains.{some_width, Users, Chain, Fine}
 use Rattle.relisting.proofs.PrintedTexts.{text_lines}
-use Rattle.relisting.proofs.Writes.{lay_out, lay_first}
 
 pub every_from : (t : ℕ → Bool) (n p : ℕ) → ((k : ℕ) → k < n → t (p + k) ≡ true) → every t p n ≡ true
 every_from t zero p h = refl
@@ -55,13 +56,6 @@ pub record Run (n : ℕ) (ls : List (List ℕ)) (fs : List Found) (st : Plan) : 
   pub runs : planned n ls st ≡ Ok after
   pub below : (q : ℕ) → q < st.next → get_or after.kinds q Free ≡ get_or st.kinds q Free
   pub firsts : AllByRecursion (λ (f : Found). get_or after.kinds f.place Free ≡ First) fs
-
-closed_size : (s : Plan) → length (closed s) ≡ length s.kinds
-closed_size s = go s.used
-  where
-    go : (b : Bool) → length (cond b (set s.kinds s.next Mark) s.kinds) ≡ length s.kinds
-    go true = length-set s.kinds s.next Mark
-    go false = refl
 
 closed_off : (s : Plan) (q : ℕ) → (s.used ≡ true → q ≢ s.next) → get_or (closed s) q Free ≡ get_or s.kinds q Free
 closed_off s q h = go s.used refl

@@ -13,7 +13,8 @@ use Rattle.sequence.specs.Listings.{at_line, instruction_line, printed}
 use Rattle.relisting.proofs.Digits.{Short, decimal_word, signed_word}
 use Rattle.relisting.proofs.Tokens.{line}
 use Rattle.relisting.proofs.PrintedLines.{shown, pieces, spelt, line_bytes, at_bytes, start, at_ends, at_allowed, at_tokens, line_ends, line_allowed, line_tokens}
-use Rattle.relisting.proofs.Chains.{user_low, some_width, Chain, Fine}
+use Rattle.layout.proofs.Placing.{user_low}
+use Rattle.relisting.proofs.Chains.{some_width, Chain, Fine}
 
 -- the lines of a listing
 abbrev pub text_lines : List Found → List (List ℕ)

@@ -20,7 +20,8 @@ use Rattle.sequence.specs.declared.image.Found.{Found}
 use Rattle.sequence.specs.Images.{Content, mark, code, wrong, image_fault, ranged, lettered, read_at, content_at, with_found, found_at, onward, is_code, further, walk}
 use Rattle.sequence.proofs.Contents.{seen}
 use Rattle.layout.proofs.Basics.{every_at}
-use Rattle.relisting.proofs.Chains.{user_low, some_width, Begins, Chain, Ranged}
+use Rattle.layout.proofs.Placing.{user_low}
+use Rattle.relisting.proofs.Chains.{some_width, Begins, Chain, Ranged}
 
 abbrev pub Bytes : List ℕ → Type 0
 Bytes s = (j : ℕ) → get_or s j 255 < 256
@@ -134,13 +135,14 @@ record Walked (im : List ℕ) (inside : Bool) (m : ℕ) (fs : List Found) : Type
   rest : (q : ℕ) → m ≤ q → q < 2048 → (get_or im q 255 ≡ 255) ⊎ Covered fs q
   range : AllByRecursion Ranged fs
 
+-- what is left of an image from place p on, and from the next place on
+abbrev pub Rest : List ℕ → ℕ → List ℕ → Type 0
+Rest im p s = (j : ℕ) → get_or im (p + j) 255 ≡ get_or s j 255
+
+pub rest_on : (im : List ℕ) (p b : ℕ) (bs : List ℕ) → Rest im p (b ∷ bs) → Rest im (suc p) bs
+rest_on im p b bs at j = ap (λ q. get_or im q 255) (let x : suc p + j ≡ p + suc j = omega arith in x) ∙ at (suc j)
+
 module _ (im : List ℕ) (small : Bytes im) where
-  abbrev Rest : ℕ → List ℕ → Type 0
-  Rest p s = (j : ℕ) → get_or im (p + j) 255 ≡ get_or s j 255
-
-  rest_on : (p b : ℕ) (bs : List ℕ) → Rest p (b ∷ bs) → Rest (suc p) bs
-  rest_on p b bs at j = ap (λ q. get_or im q 255) (let x : suc p + j ≡ p + suc j = omega arith in x) ∙ at (suc j)
-
   after_mark : (p : ℕ) (inside : Bool) (fs : List Found) → get_or im p 255 ≡ 255 → (inside ≡ true → user p ≡ true) → Walked im false (suc p) fs → Walked im inside p fs
   after_mark p inside fs h u d = record {
     chain = λ used n c. d.chain used n (record { within = λ t. absurd (both_ways false refl t); between = λ _. past inside used n c });
@@ -154,7 +156,7 @@ module _ (im : List ℕ) (small : Bytes im) where
       past true used n c = let e = (c.within refl).1 in (omega arith, λ _. omega arith)
       past false used n c = let e = (c.between refl).0 in (omega arith, λ _. omega arith)
 
-  after_code : (p : ℕ) (inside : Bool) (i : Instruction ℕ) (b : ℕ) (bs : List ℕ) (fs : List Found) → Rest p (b ∷ bs) → Known p (b ∷ bs) i → Walked im true (p + width i) fs → Walked im inside p (found_at p inside i ∷ fs)
+  after_code : (p : ℕ) (inside : Bool) (i : Instruction ℕ) (b : ℕ) (bs : List ℕ) (fs : List Found) → Rest im p (b ∷ bs) → Known p (b ∷ bs) i → Walked im true (p + width i) fs → Walked im inside p (found_at p inside i ∷ fs)
   after_code p inside i b bs fs at se d = record {
     chain = λ used n c. (begin inside used n c, users_through, d.chain true (p + width i) (record { within = λ _. (refl, refl); between = λ f. absurd (both_ways true f refl) }));
     room = λ _. ap user (let x : p ≡ p + 0 = omega arith in x) ∙ se.users 0 (some_width i);
@@ -170,7 +172,7 @@ module _ (im : List ℕ) (small : Bytes im) where
       users_through : (k : ℕ) → k ≤ width i → user (p + k) ≡ true
       users_through k h = ⊎_elim (λ (g : k < width i). se.users k g) (λ (g : width i ≤ k). ap user (let x : p + k ≡ p + width i = omega arith in x) ∙ d.room refl) (cases_lt k (width i))
 
-  walked : (s : List ℕ) (p : ℕ) (inside : Bool) (k : ℕ) (fs : List Found) → 2048 ≡ p + length s → Rest p s → walk p inside k s ≡ Ok fs → Walked im inside (p + k) fs
+  walked : (s : List ℕ) (p : ℕ) (inside : Bool) (k : ℕ) (fs : List Found) → 2048 ≡ p + length s → Rest im p s → walk p inside k s ≡ Ok fs → Walked im inside (p + k) fs
   walked [] p true k fs len at e = let z : ◌≡◌ {A = ℕ} 0 1 = cc in absurd (omega arith)
   walked [] p false k fs len at e = let q : [] ≡ fs = cc in subst (Walked im false (p + k)) q (record {
     chain = λ used n c. tt;
@@ -179,7 +181,7 @@ module _ (im : List ℕ) (small : Bytes im) where
     rest = λ q a z. absurd (omega arith);
     range = tt;
   })
-  walked (b ∷ bs) p inside (suc k) fs len at e = subst (λ m. Walked im inside m fs) (let x : suc p + k ≡ p + suc k = omega arith in x) (walked bs (suc p) inside k fs (omega arith) (rest_on p b bs at) e)
+  walked (b ∷ bs) p inside (suc k) fs len at e = subst (λ m. Walked im inside m fs) (let x : suc p + k ≡ p + suc k = omega arith in x) (walked bs (suc p) inside k fs (omega arith) (rest_on im p b bs at) e)
   walked (b ∷ bs) p inside zero fs len at e =
       subst (λ m. Walked im inside m fs) (let x : p ≡ p + 0 = omega arith in x) (go (content_at p (b ∷ bs)) refl e (λ t k. walked bs (suc p) t k))
     where
@@ -187,11 +189,11 @@ module _ (im : List ℕ) (small : Bytes im) where
       here j = subst (λ y. y < 256) (at j) (small (p + j))
 
       go : (y : Content) → content_at p (b ∷ bs) ≡ y → onward p inside y (walk (suc p) (is_code y) (further y) bs) ≡ Ok fs
-          → ((t : Bool) (k : ℕ) (js : List Found) → 2048 ≡ suc p + length bs → Rest (suc p) bs → walk (suc p) t k bs ≡ Ok js → Walked im t (suc p + k) js) → Walked im inside p fs
+          → ((t : Bool) (k : ℕ) (js : List Found) → 2048 ≡ suc p + length bs → Rest im (suc p) bs → walk (suc p) t k bs ≡ Ok js → Walked im t (suc p + k) js) → Walked im inside p fs
       go mark q e ih =
           let c = unmarked (inside && not (user p)) (walk (suc p) false 0 bs) e in
           after_mark p inside fs (ap (λ y. get_or im y 255) (let x : p ≡ p + 0 = omega arith in x) ∙ at 0 ∙ see_mark p (b ∷ bs) q) (λ t. safe t c.0)
-          (subst (λ m. Walked im false m fs) (let x : suc p + 0 ≡ suc p = omega arith in x) (ih false 0 fs (omega arith) (rest_on p b bs at) c.1))
+          (subst (λ m. Walked im false m fs) (let x : suc p + 0 ≡ suc p = omega arith in x) (ih false 0 fs (omega arith) (rest_on im p b bs at) c.1))
         where
           unmarked : (t : Bool) (o : Result (List Found) ImageFault) → cond t (Err (image_fault Area p)) o ≡ Ok fs → (t ≡ false) × (o ≡ Ok fs)
           unmarked true o e = let z : ◌≡◌ {A = ℕ} 0 1 = cc in absurd (omega arith)
@@ -204,7 +206,7 @@ module _ (im : List ℕ) (small : Bytes im) where
           let a = added (walk (suc p) true (width i - 1) bs) e in
           let w = some_width i in
           subst (Walked im inside p) a.2 (after_code p inside i b bs a.0 at (known p b bs i len here q)
-          (subst (λ m. Walked im true m a.0) (let x : suc p + (width i - 1) ≡ p + width i = omega arith in x) (ih true (width i - 1) a.0 (omega arith) (rest_on p b bs at) a.1)))
+          (subst (λ m. Walked im true m a.0) (let x : suc p + (width i - 1) ≡ p + width i = omega arith in x) (ih true (width i - 1) a.0 (omega arith) (rest_on im p b bs at) a.1)))
         where
           added : (o : Result (List Found) ImageFault) → with_found (found_at p inside i) o ≡ Ok fs → (js : List Found) × (o ≡ Ok js) × (found_at p inside i ∷ js ≡ fs)
           added (Ok js) e = (js, refl, let x : found_at p inside i ∷ js ≡ fs = cc in x)

@@ -1,34 +1,19 @@
 -- One line more of a pass.
-use Rattle.std.proofs.Common.{◌≡◌, ℕ, ◌+◌, ◌≤◌, true, List, ◌∷◌, drop, Some, None, Ok, Option, sym, refl, ap, ◌∙◌, arith}
+use Rattle.std.proofs.Common.{◌≡◌, ℕ, ◌+◌, ◌-◌, List, ◌∷◌, drop, Ok, sym, ap, ◌∙◌, arith}
 use Rattle.std.proofs.lemmas.List.{drop-drop}
 use Rattle.isa.specs.Checks.{and_then}
 use Rattle.isa.specs.Places.{user}
 use Rattle.layout.proofs.Basics.{ok_then, ok_ok, every_at}
-use Rattle.layout.proofs.LabelCounts as counts
 use Rattle.layout.proofs.Passes.{step_holds, step_opens}
 use Rattle.layout.proofs.Placing.{user_low}
 use Rattle.layout.proofs.Ranges.{Sound, line_sound}
 use Rattle.sequence.specs.declared.text.Line.{Line}
 use Rattle.sequence.specs.declared.text.Line.TheVariants.{Blank, Opens, Holds}
-use Rattle.sequence.specs.declared.text.Definition.{Definition}
-use Rattle.sequence.specs.Texts.{tokens}
 use Rattle.sequence.specs.Lines.{parsed}
 use Rattle.sequence.specs.Placings.{Plan, width_of, step}
-use Rattle.sequence.specs.Translations.{label_tokens, planned, painted, after, assembled}
+use Rattle.sequence.specs.Translations.{planned, painted, after, assembled}
 use Rattle.translator.specs.declared.plan.Plan as declared
-use Rattle.translator.specs.Plans.{defined_in, defined_by, Fits, Rests}
-
-same_defined : (x : Line) → defined_by x ≡ counts.defined_by x
-same_defined Blank = refl
-same_defined (Opens l p) = refl
-same_defined (Holds x) = go x.label
-  where
-    go : (o : Option Definition) → defined_in o ≡ counts.defined_in o
-    go None = refl
-    go (Some d) = refl
-
-pub few_defined : (l : ℕ) (b : List ℕ) (x : Line) → Ok x ≡ parsed l b → defined_by x ≤ label_tokens (tokens 1 true b)
-few_defined l b x e = let a = same_defined x in let c = counts.label_counted l b x (sym e) in omega arith
+use Rattle.translator.specs.Plans.{Fits, Rests}
 
 -- one line more of the first pass
 module _ (l : ℕ) (b : List ℕ) (bs rest : List (List ℕ)) (s : Plan) (e : rest ≡ b ∷ bs) (x : Line) (h : Ok x ≡ parsed l b) where
@@ -65,9 +50,14 @@ standing l b bs rest s t e x h k =
 drop_on : {A : Type 0} (p d q : ℕ) (l m : List A) → q ≡ p + d → drop p l ≡ drop p m → drop q l ≡ drop q m
 drop_on p d q l m e h = ap (λ k. drop k l) e ∙ sym (drop-drop d p l) ∙ ap (drop d) h ∙ drop-drop d p m ∙ ap (λ k. drop k m) (sym e)
 
--- the table with n labels more, past them
-pub rests_more : (n : ℕ) (a b c : declared.Plan) → Rests a b → c.filled ≡ b.filled + n → Rests b c → Rests a c
-rests_more n a b c r f s = record { rest = s.rest ∙ drop_on b.filled n c.filled b.table.now a.table.now f r.rest; size = s.size ∙ r.size }
+-- the table, after more labels, and after more again
+pub rests_more : (a b c : declared.Plan) → Rests a b → Rests b c → Rests a c
+rests_more a b c r s = record {
+  same = s.same ∙ r.same;
+  filled = let f = r.filled in let g = s.filled in omega arith;
+  rest = let g = s.filled in s.rest ∙ drop_on b.filled (c.filled - b.filled) c.filled b.table.now a.table.now (omega arith) r.rest;
+  size = s.size ∙ r.size;
+}
 
 -- one line more of the second pass
 pub painted_on : (t : Plan) (l : ℕ) (b : List ℕ) (bs rest : List (List ℕ)) (n : ℕ) (im : List ℕ) → rest ≡ b ∷ bs → (x : Line) → Ok x ≡ parsed l b → (im' : List ℕ) → painted t x n im ≡ Ok im' → assembled t l rest n im ≡ assembled t (l + 1) bs (after x n) im'

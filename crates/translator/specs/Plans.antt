@@ -46,28 +46,20 @@ abbrev pub Falls : Result ℕ TextFault → Source → Placings.Plan → Type 0
 Falls (Ok p) x s = (in_area x s ≡ Ok tt) × (s.opened ≡ true) × (p ≡ s.next) × (user (p + width_of x) ≡ true)
 Falls (Err e) x s = in_area x s ≡ Err e
 
--- how many labels a line defines
-abbrev pub defined_in : Option Definition → ℕ
-defined_in None = 0
-defined_in (Some d) = 1
-
-abbrev pub defined_by : Line → ℕ
-defined_by Blank = 0
-defined_by (Opens l p) = 0
-defined_by (Holds x) = defined_in x.label
-
 -- room for n labels more, and for a line in the count
 abbrev pub HasRoom : ℕ → Plan → Type 0
 HasRoom n p = (p.filled + n ≤ length p.table.now) × (p.lines + 1 < 2 ^ 64)
 
--- the records past the filled ones are as they were
+-- the same table: no fewer records are filled, and those past the filled ones are as they were
 pub record Rests (before after : Plan) : Type 0 where
+  pub same : after.table.ghost_name ≡ before.table.ghost_name
+  pub filled : before.filled ≤ after.filled
   pub rest : drop after.filled after.table.now ≡ drop after.filled before.table.now
   pub size : length after.table.now ≡ length before.table.now
 
 -- n labels more, and at most a line more
 abbrev pub Kept : {A : Type 0} → Result A TextFault → ℕ → Plan → Plan → Type 0
-Kept r n p q = OnOk r ((q.filled ≡ p.filled + n) × Rests p q × (q.lines ≤ p.lines + 1))
+Kept r n p q = Rests p q × OnOk r ((q.filled ≡ p.filled + n) × (q.lines ≤ p.lines + 1))
 
 -- the labels with that of a line
 abbrev pub with_label : Option Definition → Source → ℕ → List Label → List Label

@@ -7,7 +7,8 @@ use crate::plan::Plan;
 use sequence::{Label, Source};
 
 impl Plan<'_> {
-    ghost use Rattle.translator.specs.Plans.{entries, defined_in, with_label, Rests};
+    ghost use Rattle.layout.proofs.LabelCounts.{defined_in};
+    ghost use Rattle.translator.specs.Plans.{entries, with_label, Rests};
 
     /// The place of the label of this name.
     pub(crate) fn find(&self, name: [u8; 8]) -> Option<u16>
@@ -23,7 +24,6 @@ impl Plan<'_> {
     pub(crate) fn define(&mut self, source: Source, place: usize)
         requires room { self.old.filled + defined_in source.label ≤ length self.old.table.now }
         requires place { place < 2048 }
-        ensures same_reference { self.new.table.ghost_name ≡ self.old.table.ghost_name }
         ensures entries { entries self.new ≡ with_label source.label source place (entries self.old) }
         ensures filled { self.new.filled ≡ self.old.filled + defined_in source.label }
         ensures rests { Rests self.old self.new }
@@ -34,6 +34,7 @@ impl Plan<'_> {
             self.table[self.filled] = Label {
                 name,
                 line: source.line,
+                // Stays: a cast; the place is below 2,048.
                 place: place as u16,
             };
             self.filled += 1;

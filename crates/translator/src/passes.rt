@@ -1,6 +1,6 @@
 //! The two passes over a text: lines find their places, then targets become places and the bytes are written.
 
-ghost use Rattle.std.specs.Prelude.{◌≡◌, ◌+◌, ◌≤◌, length, Ok, OnOk};
+ghost use Rattle.std.specs.Prelude.{◌≡◌, ◌+◌, ◌≤◌, length, Ok};
 ghost use Rattle.sequence.specs.Texts.{lines};
 ghost use Rattle.sequence.specs.Translations.{labels_in, planned, assembled, blank};
 ghost use Rattle.sequence.specs.Placings.{fresh};
@@ -19,9 +19,8 @@ impl Plan<'_> {
     pub(crate) fn place_lines(&mut self, text: &[u8]) -> Result<(), TextFault>
         requires room { self.old.filled + labels_in (lines text.now) ≤ length self.old.table.now }
         requires none { self.old.lines ≡ 0 }
-        ensures same_reference { self.new.table.ghost_name ≡ self.old.table.ghost_name }
         ensures planned { Steps result (planned 1 (lines text.now) (plan_of self.old)) (plan_of self.new) }
-        ensures table { OnOk result (Rests self.old self.new) }
+        ensures table { Rests self.old self.new }
     {
         for (number, line) in (FIRST_LINE..).zip(Lines::new(text)) {
             self.place(parse(number, line)?)?;

@@ -34,7 +34,8 @@ pub(crate) struct Plan<'a> {
 }
 
 impl<'a> Plan<'a> {
-    ghost use Rattle.translator.specs.Plans.{plan_of, Steps, defined_by, HasRoom, Kept, Falls, unnamed, entries};
+    ghost use Rattle.layout.proofs.LabelCounts.{defined_by};
+    ghost use Rattle.translator.specs.Plans.{plan_of, Steps, HasRoom, Kept, Falls, unnamed, entries};
 
     /// Nothing is placed.
     pub(crate) fn new(table: &'a mut [Label]) -> Plan<'a>
@@ -55,7 +56,6 @@ impl<'a> Plan<'a> {
     /// One line more of the text.
     pub(crate) fn place(&mut self, line: Line) -> Result<(), TextFault>
         requires { HasRoom (defined_by line) self.old }
-        ensures same_reference { self.new.table.ghost_name ≡ self.old.table.ghost_name }
         ensures step { Steps result (step line (plan_of self.old)) (plan_of self.new) }
         ensures kept { Kept result (defined_by line) self.old self.new }
     {
@@ -71,6 +71,7 @@ impl<'a> Plan<'a> {
         ensures step { Steps result (step (Opens line place) (plan_of self.old)) (plan_of self.new) }
         ensures same { (self.new.table ≡ self.old.table) × (self.new.filled ≡ self.old.filled) × (self.new.lines ≡ self.old.lines) }
     {
+        // Stays: a cast; no `From` takes a u32 to a usize.
         let next = place as usize;
         if !is_user(next) {
             return Err(TextFault::new(Refusal::Area, line, 0));
@@ -87,7 +88,6 @@ impl<'a> Plan<'a> {
     /// A line finds its place: its label, its area, its written place, its neighbours, in this order.
     fn hold(&mut self, source: Source) -> Result<(), TextFault>
         requires { HasRoom (defined_by (Holds source)) self.old }
-        ensures same_reference { self.new.table.ghost_name ≡ self.old.table.ghost_name }
         ensures step { Steps result (step (Holds source) (plan_of self.old)) (plan_of self.new) }
         ensures kept { Kept result (defined_by (Holds source)) self.old self.new }
     {

@@ -44,8 +44,8 @@ impl Plan<'_> {
         Ok(place)
     }
 
-    // Stays: a match and no `try_map`; a closure that borrows the plan, with the table lent to it, promises nothing of its
-    // result there, so the proof does not close.
+    // Stays: a match and no map that can fail; a closure that borrows the plan, with the table lent to it, promises nothing
+    // of its result there, so the proof does not close.
     /// A line's instruction with its target as a place.
     fn resolve(&self, source: Source) -> Result<Instruction<u16>, TextFault>
         ensures { result ≡ resolve_line (plan_of self.now) source }
@@ -76,6 +76,7 @@ impl Plan<'_> {
     {
         match line {
             Line::Blank => Ok(place),
+            // Stays: a cast; no `From` takes a u32 to a usize.
             Line::Opens { place, .. } => Ok(place as usize),
             Line::Holds(source) => {
                 let instruction = self.resolve(source)?;

@@ -10,7 +10,6 @@ invariant-loop-number l =
     record {
       number : (zip_first l.number-iterator).start + length (zip_second l.number-iterator) ≡ 1 + length (lines l.text);
       planned : planned (zip_first l.number-iterator).start (zip_second l.number-iterator) (plan_of l.self) ≡ planned 1 (lines l.text) (plan_of l.initial.self);
-      same_reference : l.self.table.ghost_name ≡ l.initial.self.table.ghost_name;
       room : l.self.filled + labels_in (zip_second l.number-iterator) ≤ length l.self.table.now;
       rests : Rests l.initial.self l.self;
       count : l.self.lines + length (zip_second l.number-iterator) ≤ length (lines l.text);

@@ -55,6 +55,7 @@ fn read_lettered<S: Store>(store: &S, place: u16, letter: u8) -> Result<Option<R
     ensures { result ≡ shaped (S.memory store.now) place letter (shape_of letter) }
 {
     let shape = shape_of(char::from(letter)).ok_or(Refusal::Code)?;
+    // Stays: a cast; a width is at most four, and `try_from` would hand out a refusal that never comes.
     let width = shape.width() as u16;
     if !is_user_place(place + (width - 1)) {
         return Err(Refusal::Area.into());

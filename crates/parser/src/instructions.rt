@@ -13,7 +13,7 @@ use sequence::{Definition, Line, Source, Target, TextFault, WrittenPlace};
 use token::{Scanner, Spot, name_of, number_of, unsigned_of};
 
 /// What stands in front of an instruction.
-#[derive(Clone, Copy, Debug, PartialEq, Eq)]
+#[derive(Clone, Copy, Debug, Default, PartialEq, Eq)]
 pub struct Front {
     pub line: usize,
     pub written: Option<WrittenPlace>,
@@ -129,8 +129,10 @@ impl Argument {
     }
 }
 
+// Stays: 0 and no Option as the value of a name, and as the value and column of an operand that is not there; the definition
+// of a line has 0 for them, and the table reads both operands.
 /// The operands after a letter.
-#[derive(Clone, Copy, Debug, PartialEq, Eq)]
+#[derive(Clone, Copy, Debug, Default, PartialEq, Eq)]
 pub(crate) struct Arguments {
     first: Option<Argument>,
     second: Option<Argument>,
@@ -144,10 +146,7 @@ impl Arguments {
     {
         let count = shape.operand_count();
         let Some(first) = first else {
-            return (count == 0).then_some(Arguments {
-                first: None,
-                second: None,
-            });
+            return (count == 0).then_some(Arguments::default());
         };
         let one = Argument::read(shape.has_target(), first)?;
         let Some(second) = scan.next() else {

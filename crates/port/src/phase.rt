@@ -62,6 +62,7 @@ impl PhasePort {
         ensures value { result ≡ column_of self.now.counts }
         ensures law { Moves self.now.counts }
     {
+        // Stays: a cast; a `usize` has no `From<u32>`, and a number modulo 8 fits.
         (self.counts.plus.wrapping_sub(self.counts.minus) % 8) as usize
     }
 

@@ -1,4 +1,4 @@
-//! The line protocol of an axis: what it hears, what a message asks, and the bytes of an answer.
+//! The line protocol of an axis: what it hears, and what a message asks.
 
 #![tactic(auto)]
 

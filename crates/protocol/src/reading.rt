@@ -11,13 +11,6 @@ use parser::{Front, first_bad, instruction};
 use sequence::{Line, Target, TextFault};
 use token::{Scanner, Spot};
 
-/// Nothing stands in front of a message's instruction.
-const BARE: Front = Front {
-    line: 0,
-    written: None,
-    label: None,
-};
-
 /// What the bytes of a message ask. Its operands are then those of the table, and it is no wait.
 #[tactic(auto, unfolding(machine::specs::Messages::message_of))]
 pub fn read_message(bytes: &[u8]) -> Result<Message, Refusal>
@@ -32,7 +25,7 @@ pub fn read_message(bytes: &[u8]) -> Result<Message, Refusal>
     read_words(spot, scan)
 }
 
-/// The message's first token, and those after it.
+/// The message's first token, and those after it. Nothing stands in front of its instruction.
 fn read_words<'a>(spot: Spot<'a>, scan: Scanner<'a>) -> Result<Message, Refusal>
     ensures { result ≡ worded (token_of spot.entry ∷ left scan.entry) }
 {
@@ -42,7 +35,7 @@ fn read_words<'a>(spot: Spot<'a>, scan: Scanner<'a>) -> Result<Message, Refusal>
     match letter {
         b'@' => soft_stop(rest, scan),
         b'J' | b'L' | b'W' => Err(Refusal::Letter),
-        _ => asked_by(instruction(BARE, spot, scan)),
+        _ => asked_by(instruction(Front::default(), spot, scan)),
     }
 }
 

@@ -15,9 +15,10 @@ use std::mem;
 /// The bytes that a message has at most, its name not counted.
 const LONGEST: usize = 12;
 
-#[derive(Clone, Debug, Drop)]
+#[derive(Clone, Debug, Default, Drop)]
 enum Heard {
     /// No line feed yet, or a message to another, or one that was cut off.
+    #[default]
     Deaf,
     /// A line feed: the next byte is the name.
     Awaiting,
@@ -28,7 +29,7 @@ enum Heard {
 }
 
 /// What an axis has heard since the last line feed.
-#[derive(Clone, Debug, Drop)]
+#[derive(Clone, Debug, Default, Drop)]
 pub struct Receiver {
     heard: Heard,
 }
@@ -47,7 +48,7 @@ impl Receiver {
     pub fn new() -> Receiver
         ensures { result ≡ deaf }
     {
-        Receiver { heard: Heard::Deaf }
+        Receiver::default()
     }
 
     /// A byte that is neither LF nor ESC. Answers the echo: the name and the bytes of a message are sent back.
@@ -55,7 +56,7 @@ impl Receiver {
         ensures echo { result ≡ echoed name byte self.old }
         ensures after { self.new ≡ hears_plain name byte self.old }
     {
-        let (heard, answer) = match mem::replace(&mut self.heard, Heard::Deaf) {
+        let (heard, answer) = match mem::take(&mut self.heard) {
             Heard::Awaiting if byte == name => (
                 Heard::Gathering(ArrayVec::new()),
                 Answer::Echo(byte),

@@ -1,10 +1,10 @@
 //! The lines of a text, one by one.
 
-ghost use Rattle.std.specs.Prelude.{◌≡◌, ◌≤◌, ◌==◌, length};
+ghost use Rattle.std.specs.Prelude.{◌≡◌, ◌≤◌, length};
 ghost use Rattle.std.specs.Iterator.{YieldsFirstRef, item_count};
-ghost use Rattle.std.specs.List.{position_or_len};
 ghost use Rattle.sequence.specs.Texts.{lines};
 
+use crate::scanner::front_len;
 use std::marker::Model;
 
 /// The lines of a text that are still to come, each without its line feed.
@@ -43,17 +43,9 @@ impl<'a> Iterator for Lines<'a> {
         if self.rest.is_empty() {
             return None;
         }
-        let n = line_len(self.rest);
+        let n = front_len(self.rest, |b| b != b'\n');
         let line = &self.rest[..n];
         self.rest = self.rest.get(n + 1..).unwrap_or(&[]);
         Some(line)
     }
-}
-
-/// How many bytes the line in front has: those before the next line feed, or before the end.
-fn line_len(text: &[u8]) -> usize
-    ensures within { result ≤ length text.now }
-    ensures size { result ≡ position_or_len (λ b. b == 10) text.now }
-{
-    text.iter().take_while(|b| **b != b'\n').count()
 }

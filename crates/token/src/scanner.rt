@@ -1,7 +1,7 @@
 //! The tokens of a line, one by one.
 
-ghost use Rattle.std.specs.Prelude.{◌≡◌, ◌≤◌, true, length};
-ghost use Rattle.std.specs.List.{position_or_len, prefix_len};
+ghost use Rattle.std.specs.Prelude.{◌≡◌, ◌≤◌, ℕ, Bool, true, length};
+ghost use Rattle.std.specs.List.{prefix_len};
 ghost use Rattle.std.specs.Iterator.{YieldsFirstBy, item_count};
 ghost use Rattle.sequence.specs.Texts.{gap, tokens};
 ghost use Rattle.token.specs.Spots.{left, token_of, Gives};
@@ -61,8 +61,8 @@ impl<'a> Iterator for Scanner<'a> {
     fn next(&mut self) -> Option<Spot<'a>>
         ensures { Gives result self.old self.new }
     {
-        let (gaps, from) = self.rest.split_at(gaps_len(self.rest));
-        let (text, rest) = from.split_at(word_len(from));
+        let (gaps, from) = self.rest.split_at(front_len(self.rest, is_gap));
+        let (text, rest) = from.split_at(front_len(from, |b| !is_gap(b)));
         let column = self.column + gaps.len();
         self.column = column + text.len();
         self.rest = rest;
@@ -83,18 +83,11 @@ fn is_gap(b: u8) -> bool
     b == b' ' || b == b','
 }
 
-/// How many gaps stand in front.
-fn gaps_len(s: &[u8]) -> usize
+/// How many bytes in front pass a test.
+pub(crate) fn front_len<F: Fn(u8) -> bool>(s: &[u8], test: F) -> usize
+    requires { F.IsAlwaysCallable test }
     ensures within { result ≤ length s.now }
-    ensures size { result ≡ prefix_len gap s.now }
+    ensures size { (p : ℕ → Bool) → ((b : ℕ) (r : Bool) → F.post test b r → r ≡ p b) → result ≡ prefix_len p s.now }
 {
-    s.iter().take_while(|b| is_gap(**b)).count()
-}
-
-/// How many bytes the token in front has.
-fn word_len(s: &[u8]) -> usize
-    ensures within { result ≤ length s.now }
-    ensures size { result ≡ position_or_len gap s.now }
-{
-    s.iter().take_while(|b| !is_gap(**b)).count()
+    s.iter().take_while(|b| test(**b)).count()
 }

@@ -58,8 +58,8 @@ impl<'a> Listing<'a> {
         }
     }
 
-    // Stays: the range is a clause, here and at `push_found`; an instruction is plain data of the definitions, with no invariant,
-    // and what a walk gives has it once.
+    // Stays: the range is a clause, here and at `push_found`; an instruction is plain data of the definitions, without it, and
+    // what a walk gives has it once.
     /// Writes letter and operands.
     fn push_instruction(&mut self, instruction: Instruction<u16>)
         requires range { in_range instruction ≡ true }

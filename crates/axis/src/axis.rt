@@ -4,7 +4,8 @@ use crate::state::State;
 use port::StepPort;
 use store::Store;
 
-/// An axis: a store by value, beside its own state.
+/// An axis: a store by value, beside its own state. Its calls come with the rest of the axis; until then the parts work
+/// on the state and a lent store.
 #[derive(Drop)]
 pub struct Axis<S: Store, P: StepPort> {
     pub(crate) store: S,

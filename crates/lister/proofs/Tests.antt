@@ -2,6 +2,7 @@
 use Rattle.std.proofs.Common.{◌≡◌, ℕ, ◌<◌, ◌≤◌, Bool, true, false, cond, ◌||◌, ◌≢◌, List, [], ◌∷◌, length, get_or, set, replicate, Some, None, Ok, Err, Option, Result, sym, refl, ap, ◌∙◌, ⊎_elim, arith, length-set, get_or-set_other, get_or-set_same}
 use lib.ListN.{length-replicate}
 use Rattle.std.proofs.lemmas.List.{get_or-replicate}
+use Rattle.std.proofs.Math.Bool.{or-false}
 use Rattle.std.proofs.lemmas.Bool.{cases_eq, eq-eqb, ne_eqb, or_right}
 use Rattle.std.specs.List.{AllByRecursion}
 use Rattle.isa.specs.declared.refusal.Refusal.TheVariants.{Target}
@@ -36,11 +37,7 @@ first_is : (all : List Found) (o : Option ℕ) → ((t : ℕ) → o ≡ Some t �
 first_is all None h = refl
 first_is all (Some t) h =
     let l : t < 2048 = let k = h t refl in omega arith in
-    marks_at all blank t (omega (arith, length-replicate {A = Bool} 2048 false)) ∙ ap (λ b. begins all t || b) (get_or-replicate 2048 t false false l) ∙ plain (begins all t)
-  where
-    plain : (b : Bool) → (b || false) ≡ b
-    plain true = refl
-    plain false = refl
+    marks_at all blank t (omega (arith, length-replicate {A = Bool} 2048 false)) ∙ ap (λ b. begins all t || b) (get_or-replicate 2048 t false false l) ∙ or-false (begins all t)
 
 checks : (all fs : List Found) → AllByRecursion (λ (f : Found). in_range f.instruction ≡ true) fs → and_then (checked_all (marked all blank) fs) (λ _. Ok all) ≡ aimed all fs
 checks all [] a = refl
@@ -71,10 +68,3 @@ listing_tested im m = go (walk 0 false 0 im) refl
     go : (w : Result (List Found) ImageFault) → walk 0 false 0 im ≡ w → Ok m ≡ firsts w blank → listing im ≡ and_then (checked m w) (λ _. Ok (printed (found_in w)))
     go (Ok fs) e h = listing_checked im fs e ∙ ap (λ k. and_then (checked_all k fs) (λ _. Ok (printed fs))) (let x : marked fs blank ≡ m = cc in x)
     go (Err x) e h = let z : ◌≡◌ {A = ℕ} 0 1 = cc in absurd (omega arith)
-
-pub listing_untested : (im : List ℕ) (x : ImageFault) → Err x ≡ firsts (walk 0 false 0 im) blank → listing im ≡ Err x
-listing_untested im x = go (walk 0 false 0 im) refl
-  where
-    go : (w : Result (List Found) ImageFault) → walk 0 false 0 im ≡ w → Err x ≡ firsts w blank → listing im ≡ Err x
-    go (Ok fs) e h = let z : ◌≡◌ {A = ℕ} 0 1 = cc in absurd (omega arith)
-    go (Err y) e h = ap (λ w. and_then (and_then w (λ fs. aimed fs fs)) (λ fs. Ok (printed fs))) e ∙ ap Err (let q : y ≡ x = cc in q)

@@ -20,6 +20,7 @@ pub const LISTING_ROOM: usize = 16_384;
 ///
 /// Refused with the place at fault, and with `out` as it was, if the image is none that a text yields; with `Size` and
 /// place 0 if the image has not 2,048 bytes or the output has under 16,384.
+#[tactic(auto, using(sequence::proofs::Lengths::short))]
 pub fn list(image: &[u8], out: &mut [u8]) -> Result<usize, ImageFault>
     ensures answer { result ≡ answered (listed image.now (length out.old)) }
     ensures output { out.new ≡ written out.old (listed image.now (length out.old)) }

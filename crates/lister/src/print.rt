@@ -13,8 +13,8 @@ use isa::{IMAGE_SIZE, Instruction, Operands, shape_of};
 use itoa::{Buffer, Integer};
 use sequence::{Found, ImageFault};
 
-/// A text in front of the buffer that it is written into.
 // Stays: the buffer is lent by the caller, so the text's length stands beside it.
+/// A text in front of the buffer that it is written into.
 #[derive(Drop)]
 struct Listing<'a> {
     out: &'a mut [u8],
@@ -58,6 +58,8 @@ impl<'a> Listing<'a> {
         }
     }
 
+    // Stays: the range is a clause, here and at `push_found`; an instruction is plain data of the definitions, without it, and
+    // what a walk gives has it once.
     /// Writes letter and operands.
     fn push_instruction(&mut self, instruction: Instruction<u16>)
         requires range { in_range instruction ≡ true }

@@ -13,6 +13,7 @@ use sequence::{Found, ImageFault};
 pub(crate) fn first_bytes(image: &[u8; IMAGE_SIZE]) -> Result<[bool; IMAGE_SIZE], ImageFault>
     ensures { result ≡ firsts (walk 0 false 0 image.now) (replicate 2048 false) }
 {
+    // Stays: a flag for each place of the image; without a heap there is no set of places.
     let mut firsts = [false; IMAGE_SIZE];
     for found in Walk::new(image) {
         firsts[usize::from(found?.place)] = true;

@@ -35,6 +35,7 @@ impl<'a> Walk<'a> {
     fn place(&self) -> u16
         ensures { result ≡ reached self.now }
     {
+        // Stays: a cast, here and in `read`; a place is at most 2,048, a width at most four.
         (IMAGE_SIZE - self.rest.len()) as u16
     }
 

@@ -28,7 +28,7 @@ fn main(rt: HostRuntime) -> anyhow::Result<()> {
 
 fn run(rt: &HostRuntime) -> anyhow::Result<()> {
     let table = io::read_to_string(rt.alloc(), rt.stdin())?;
-    // Stays: the other table's program has this loop too; one for both would want a trait for reading and showing a case.
+    // Stays: the other table's program has this loop too; one for both, given the separator and a closure, would be as long.
     for line in table.lines() {
         let (name, items) = line.split_once(" |").context("a case has no name")?;
         println!(rt; "== {name}")?;

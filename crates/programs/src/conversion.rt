@@ -16,13 +16,11 @@ pub fn listing_of(heap: Global, image: &[u8]) -> Result<Result<Vec<u8>, ImageFau
     ensures { IfOk result (λ answer. listing_in answer ≡ listed image.now listing_room) }
 {
     let mut listing = vec![in heap; 0u8; LISTING_ROOM]?;
-    match list(image, listing.as_mut_slice()) {
-        Ok(len) => {
-            listing.truncate(len);
-            Ok(Ok(listing))
-        }
-        Err(fault) => Ok(Err(fault)),
-    }
+    let answer = list(image, listing.as_mut_slice());
+    Ok(answer.map(|len| {
+        listing.truncate(len);
+        listing
+    }))
 }
 
 /// An accepted text: its image, its labels in text order, and how many instruction lines it has.
@@ -42,15 +40,13 @@ pub fn translation_of(
 {
     let mut image = vec![in heap; 0u8; IMAGE_SIZE]?;
     let mut labels = vec![in heap; Label::default(); MOST_LABELS]?;
-    match translate(text, image.as_mut_slice(), labels.as_mut_slice()) {
-        Ok(counts) => {
-            labels.truncate(counts.labels);
-            Ok(Ok(Translation {
-                image,
-                labels,
-                lines: counts.lines,
-            }))
+    let answer = translate(text, image.as_mut_slice(), labels.as_mut_slice());
+    Ok(answer.map(|counts| {
+        labels.truncate(counts.labels);
+        Translation {
+            image,
+            labels,
+            lines: counts.lines,
         }
-        Err(fault) => Ok(Err(fault)),
-    }
+    }))
 }

@@ -23,6 +23,7 @@ fn run(rt: &HostRuntime) -> anyhow::Result<()> {
     };
     let unreadable = ImageFault::new(Refusal::Size, 0);
     // One byte more than an image has tells one that is too long.
+    // Stays: a cast; a `usize` has no `u64::from`.
     let image = program.read(rt.stdin(), IMAGE_SIZE as u64 + 1, unreadable)?;
     match listing_of(rt.alloc(), image.as_slice())? {
         Ok(listing) => program.write(listing.as_slice()),

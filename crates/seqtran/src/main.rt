@@ -32,6 +32,7 @@ fn run(rt: &HostRuntime) -> anyhow::Result<()> {
     };
     let unreadable = TextFault::new(Refusal::Size, 0, 0);
     // One byte more than a text may have tells one that is too long.
+    // Stays: a cast; a `usize` has no `u64::from`.
     let text = program.read(rt.stdin(), MOST_BYTES as u64 + 1, unreadable)?;
     match translation_of(rt.alloc(), text.as_slice())? {
         Ok(translation) => {
@@ -94,7 +95,7 @@ fn line_shown(heap: Global, text: &[u8], before: usize) -> Result<String, AllocE
         .nth(before)
         .unwrap_or_default()
         .iter()
-        .map(|b| if (32..=126).contains(b) {
+        .map(|b| if (b' '..=b'~').contains(b) {
             char::from(*b)
         } else {
             '?'

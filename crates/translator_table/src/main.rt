@@ -35,25 +35,30 @@ struct Case {
     table: usize,
 }
 
-/// Where a character of a case stands.
-#[derive(Clone, Copy, PartialEq, Eq)]
+/// Where a character of a case stands. A quote after a backslash opens and closes nothing.
+#[derive(Clone, Copy)]
 enum Spot {
     /// Outside the quotes, where a space ends a word.
     Outside,
+    OutsideEscaped,
     Quoted,
-    /// In the quotes, after a backslash.
-    Escaped,
+    QuotedEscaped,
 }
 
 impl Spot {
-    /// Where the character after this one stands.
+    fn is_outside(self) -> bool {
+        matches!(self, Spot::Outside | Spot::OutsideEscaped)
+    }
+
+    /// Where the character after this one of a word stands.
     fn after(self, c: char) -> Spot {
         match (self, c) {
+            (Spot::Outside, '\\') => Spot::OutsideEscaped,
             (Spot::Outside, '"') => Spot::Quoted,
+            (Spot::Outside | Spot::OutsideEscaped, _) => Spot::Outside,
+            (Spot::Quoted, '\\') => Spot::QuotedEscaped,
             (Spot::Quoted, '"') => Spot::Outside,
-            (Spot::Quoted, '\\') => Spot::Escaped,
-            (Spot::Escaped, _) => Spot::Quoted,
-            _ => self,
+            (Spot::Quoted | Spot::QuotedEscaped, _) => Spot::Quoted,
         }
     }
 }
@@ -74,7 +79,7 @@ fn main(rt: HostRuntime) -> anyhow::Result<()> {
 
 fn run(rt: &HostRuntime) -> anyhow::Result<()> {
     let table = io::read_to_string(rt.alloc(), rt.stdin())?;
-    // Stays: the other table's program has this loop too; one for both would want a trait for reading and showing a case.
+    // Stays: the other table's program has this loop too; one for both, given the separator and a closure, would be as long.
     for line in table.lines() {
         let (name, words) = line.split_once(" | ").context("a case has no name")?;
         println!(rt; "== {name}")?;
@@ -92,7 +97,7 @@ fn case_of(heap: Global, words: &str) -> anyhow::Result<Case> {
     let mut word = String::new(heap);
     let mut spot = Spot::Outside;
     for c in words.chars() {
-        if c == ' ' && spot == Spot::Outside {
+        if c == ' ' && spot.is_outside() {
             change(heap, &mut case, word.as_str())?;
             word.clear();
         } else {

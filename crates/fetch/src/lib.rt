@@ -49,6 +49,8 @@ pub fn fetch<S: Store>(store: &S, place: u16) -> Result<Option<Reading>, Fault>
     read_lettered(store, place, letter)
 }
 
+// Stays: the steps by which the lister's walk reads, over a store that may refuse each byte; one function for both would take
+// each byte from a closure that can fail.
 /// The instruction that begins with this byte, all of it in user places.
 fn read_lettered<S: Store>(store: &S, place: u16, letter: u8) -> Result<Option<Reading>, Fault>
     requires { user place ≡ true }

@@ -62,6 +62,7 @@ impl Body {
         Ok(Answer::Silence)
     }
 
+    // Stays: the range is a clause, here and of an instruction in a run; an action is plain data of its instruction.
     /// Carries an action out, or changes nothing where something moves that must not. A wait is a matter of the run that meets
     /// it.
     pub(crate) fn carry_out(&mut self, action: Action) -> Result<Answer, Refusal>

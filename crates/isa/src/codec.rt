@@ -47,6 +47,7 @@ fn decode_parts(letter: u8, low: u8, middle: u8, high: u8) -> Result<Instruction
     }
 }
 
+// Stays: the range is a clause; the instruction is a caller's plain data, and the table has just been asked.
 /// The bytes after the letter of an instruction whose operands are in range, and 0 after them.
 fn operand_bytes(instruction: Instruction<u16>) -> [u8; 3]
     requires { in_range instruction ≡ true }

@@ -20,6 +20,8 @@ pub struct Front {
     pub label: Option<Definition>,
 }
 
+// Stays: a token and those that follow it, here and for messages, as two parameters; a scanner that holds one token back would
+// have it taken out again first thing.
 /// The instruction's own token, and the operands after it.
 pub fn instruction<'a>(
     front: Front,

@@ -62,6 +62,7 @@ fn padded(name: &[u8]) -> [u8; 8]
     letters
 }
 
+// Stays: a loop and no `fold`; what bounds the sum is not known to a closure, so the proof does not close.
 /// The value of at most eight digits.
 fn value(digits: &[u8]) -> u32
     requires { (every digit digits.now ≡ true) × (length digits.now ≤ 8) }

@@ -132,6 +132,8 @@ impl<'a> Plan<'a> {
         }
     }
 
+    // Stays: a place and a width as two parameters, here and below; a struct of both would be made in `hold` and taken apart
+    // in each.
     /// No other stretch has a byte or a mark there.
     fn check_free(&self, source: Source, place: usize, width: usize) -> Result<(), TextFault>
         requires { place + width < 2048 }

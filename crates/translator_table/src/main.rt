@@ -174,6 +174,7 @@ fn escaped(b: u8) -> anyhow::Result<u8> {
     }
 }
 
+// Stays: by hand; the library's `to_digit` takes digits in upper case too.
 fn hex_digit(b: u8) -> anyhow::Result<u8> {
     match b {
         b'0'..=b'9' => Ok(b - b'0'),

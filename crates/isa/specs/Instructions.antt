@@ -1,5 +1,5 @@
 -- Letter, operands and target of an instruction.
-use Rattle.std.specs.Prelude.{◌≡◌, ℕ, pos, Some, None, Option}
+use Rattle.std.specs.Prelude.{ℕ, pos, Some, None, Option}
 use Rattle.isa.specs.Shapes.{operands}
 use Rattle.isa.specs.declared.shape.Operands.{Operands}
 use Rattle.isa.specs.declared.instruction.Direction.TheVariants.{Plus, Minus}
@@ -52,10 +52,3 @@ retarget f (Go x) = Go (f x)
 retarget f (Jump x n) = Jump (f x) n
 retarget f (JumpLow x c) = JumpLow (f x) c
 retarget f (Act a) = Act a
-
--- the second is the first, its target replaced by one that stands in a relation to it
-abbrev pub Retargets : {X Y : Type 0} → (X → Y → Type 0) → Instruction X → Instruction Y → Type 0
-Retargets R (Go x) j = (y : _) × R x y × (j ≡ Go y)
-Retargets R (Jump x n) j = (y : _) × R x y × (j ≡ Jump y n)
-Retargets R (JumpLow x c) j = (y : _) × R x y × (j ≡ JumpLow y c)
-Retargets R (Act a) j = j ≡ Act a

@@ -1,7 +1,7 @@
 //! Instructions.
 
 ghost use Rattle.std.specs.Prelude.{◌≡◌};
-ghost use Rattle.isa.specs.Instructions.{letter_of, operands_of, target_of, Retargets};
+ghost use Rattle.isa.specs.Instructions.{letter_of, operands_of, target_of, retarget};
 
 use crate::shape::Operands;
 
@@ -91,21 +91,14 @@ impl<T: Copy> Instruction<T> {
         }
     }
 
-    /// The same instruction with another target.
-    pub fn map<U, F: FnOnce(T) -> U>(self, f: F) -> Instruction<U>
-        requires { F.IsAlwaysCallable f }
-        ensures { Retargets (F.post f) self result }
+    /// The same instruction with this target in place of its own, if it has one.
+    pub fn with_target<U: Copy>(self, target: U) -> Instruction<U>
+        ensures { result ≡ retarget (λ _. target) self }
     {
         match self {
-            Instruction::Go(target) => Instruction::Go(f(target)),
-            Instruction::Jump { target, times } => Instruction::Jump {
-                target: f(target),
-                times,
-            },
-            Instruction::JumpLow { target, port } => Instruction::JumpLow {
-                target: f(target),
-                port,
-            },
+            Instruction::Go(_) => Instruction::Go(target),
+            Instruction::Jump { times, .. } => Instruction::Jump { target, times },
+            Instruction::JumpLow { port, .. } => Instruction::JumpLow { target, port },
             Instruction::Act(action) => Instruction::Act(action),
         }
     }

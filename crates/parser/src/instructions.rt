@@ -3,12 +3,12 @@
 ghost use Rattle.std.specs.Prelude.{◌≡◌, Some};
 ghost use Rattle.isa.specs.declared.refusal.Refusal.TheVariants as refusal;
 ghost use Rattle.isa.specs.Shapes.{operands};
-ghost use Rattle.sequence.specs.Lines.{text_fault, operand_of, one_of, pair_of, value_of, target_from, column_of, formed, coded};
+ghost use Rattle.sequence.specs.Lines.{text_fault, operand_of, one_of, pair_of, value_of, target_from, aimed_at, column_of, formed, coded};
 ghost use Rattle.token.specs.Spots.{left};
 ghost use Rattle.std.specs.Option.{option_map};
 ghost use Rattle.parser.specs.Parts.{head_of, shown_operand, shown_argument, shown_pair, listed};
 
-use isa::{Mismatch, Operands, Order, Refusal, Shape, look_up, shape_of};
+use isa::{Instruction, Mismatch, Operands, Order, Refusal, Shape, look_up, shape_of};
 use sequence::{Definition, Line, Source, Target, TextFault, WrittenPlace};
 use token::{Scanner, Spot, name_of, number_of, unsigned_of};
 
@@ -64,7 +64,7 @@ fn ranged(
             line: front.line,
             written: front.written,
             label: front.label,
-            instruction: entry.instruction.map(|place| arguments.target_at(place)),
+            instruction: arguments.aim(entry.instruction),
             column: arguments.column_of(Order::First),
         })),
         Err(Mismatch::OutOfRange(_, order)) => Err(TextFault::new(
@@ -183,6 +183,14 @@ impl Arguments {
             Order::Second => self.second,
         };
         argument.map_or(0, |argument| argument.column)
+    }
+
+    /// The instruction with its target as written.
+    fn aim(self, instruction: Instruction<u16>) -> Instruction<Target>
+        ensures { result ≡ aimed_at (shown_pair self).first instruction }
+    {
+        let place = instruction.target().unwrap_or(0);
+        instruction.with_target(self.target_at(place))
     }
 
     /// The target as written: the first operand, whose value is this place.

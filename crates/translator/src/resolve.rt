@@ -44,24 +44,15 @@ impl Plan<'_> {
         Ok(place)
     }
 
-    // Stays: a match and no map that can fail; a closure that borrows the plan, with the table lent to it, promises nothing
-    // of its result there, so the proof does not close.
     /// A line's instruction with its target as a place.
     fn resolve(&self, source: Source) -> Result<Instruction<u16>, TextFault>
         ensures { result ≡ resolve_line (plan_of self.now) source }
     {
-        Ok(match source.instruction {
-            Instruction::Go(target) => Instruction::Go(self.target_place(source, target)?),
-            Instruction::Jump { target, times } => Instruction::Jump {
-                target: self.target_place(source, target)?,
-                times,
-            },
-            Instruction::JumpLow { target, port } => Instruction::JumpLow {
-                target: self.target_place(source, target)?,
-                port,
-            },
-            Instruction::Act(action) => Instruction::Act(action),
-        })
+        let place = match source.instruction.target() {
+            Some(target) => self.target_place(source, target)?,
+            None => 0,
+        };
+        Ok(source.instruction.with_target(place))
     }
 
     /// Writes the bytes of a line at its place, with its target as a place, and answers the place after them.

@@ -81,6 +81,22 @@ entry_width (Act Report) e h = grind (arith, nat_tests)
 entry_width (Act (Index Plus n)) e h = grind (arith, nat_tests)
 entry_width (Act (Index Minus n)) e h = grind (arith, nat_tests)
 
+-- the bytes of a code are those of its instruction
+pub code_bytes : (i : Instruction ℕ) → take (width i) (padded (encoded i)) ≡ encoded i
+code_bytes (Go p) = refl
+code_bytes (Jump p n) = refl
+code_bytes (JumpLow p c) = refl
+code_bytes (Act (Outputs n)) = refl
+code_bytes (Act (Divisor n)) = refl
+code_bytes (Act (InitialSpeed n)) = refl
+code_bytes (Act (SlewSpeed n)) = refl
+code_bytes (Act (Rates a d)) = refl
+code_bytes (Act (Origin z)) = refl
+code_bytes (Act (IndexTo z)) = refl
+code_bytes (Act (Wait n)) = refl
+code_bytes (Act Report) = refl
+code_bytes (Act (Index d n)) = refl
+
 -- what a list begins with
 front_at : (w : ℕ) (bs xs : List ℕ) (k : ℕ) → take w bs ≡ xs → w ≡ length xs → get_or xs k (get_or bs k 0) ≡ get_or bs k 0
 front_at zero bs [] k e l = refl
@@ -214,11 +230,3 @@ decoded_in_range bs i = go (shape_of (get_or bs 0 0))
     go : (o : Option Shape) → decoded_as o (get_or bs 0 0) (get_or bs 1 0) (get_or bs 2 0) (get_or bs 3 0) ≡ Ok i → in_range i ≡ true
     go None e = let z : ◌≡◌ {A = ℕ} 0 1 = cc in absurd (omega arith)
     go (Some s) e = entry_in_range (operands_from s (get_or bs 1 0) (get_or bs 2 0) (get_or bs 3 0)).first (operands_from s (get_or bs 1 0) (get_or bs 2 0) (get_or bs 3 0)).second (get_or bs 0 0) i e
-
--- a letter in front of three bytes, cut to a width
-pub front_code : (l w : ℕ) (bs xs : List ℕ) → length bs ≡ 3 → take w bs ≡ xs → take (suc w) (l ∷ get_or bs 0 0 ∷ get_or bs 1 0 ∷ get_or bs 2 0 ∷ []) ≡ l ∷ xs
-front_code l w [] xs n h = absurd (omega arith)
-front_code l w (a ∷ []) xs n h = absurd (omega arith)
-front_code l w (a ∷ b ∷ []) xs n h = absurd (omega arith)
-front_code l w (a ∷ b ∷ c ∷ []) xs n h = ap (λ ys. l ∷ ys) h
-front_code l w (a ∷ b ∷ c ∷ d ∷ bs) xs n h = absurd (omega arith)

@@ -9,7 +9,7 @@ use Rattle.isa.specs.declared.instruction.Instruction.TheVariants.{Go, Jump, Jum
 use Rattle.isa.specs.declared.table.Entry.{Entry}
 use Rattle.isa.specs.declared.table.Mismatch.{Mismatch}
 use Rattle.isa.specs.declared.table.Mismatch.TheVariants.{UnknownLetter, OutOfRange}
-use Rattle.arrayvec.specs.ArrayVec.{ArrayVec}
+use Rattle.isa.specs.declared.codec.Code.{Code}
 use Rattle.isa.specs.TwosComplement.{half24, bits_of}
 use Rattle.isa.specs.Shapes.{operands_from}
 use Rattle.isa.specs.Instructions.{letter_of, operands_of}
@@ -52,13 +52,11 @@ in_range i = is_ok (entry (letter_of i) (operands_of i))
 abbrev pub padded : List ℕ → List ℕ
 padded bs = slice_index bs 0 ∷ slice_index bs 1 ∷ slice_index bs 2 ∷ slice_index bs 3 ∷ []
 
-abbrev pub encoding : Instruction ℕ → Result (List ℕ) Refusal
-encoding i = cond (in_range i) (Ok (encoded i)) (Err Range)
+abbrev pub code_of : Instruction ℕ → Code
+code_of i = record { bytes = padded (encoded i); len = width i }
 
--- the bytes that an encoder answers
-abbrev pub code_in : Result (ArrayVec ℕ) Refusal → Result (List ℕ) Refusal
-code_in (Ok c) = Ok c.items
-code_in (Err e) = Err e
+abbrev pub encoding : Instruction ℕ → Result Code Refusal
+encoding i = cond (in_range i) (Ok (code_of i)) (Err Range)
 
 abbrev pub instruction_in : Result Entry Mismatch → Result (Instruction ℕ) Refusal
 instruction_in (Ok e) = Ok e.instruction

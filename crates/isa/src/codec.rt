@@ -1,28 +1,37 @@
 //! Instructions to bytes and back.
 
-ghost use Rattle.std.specs.Prelude.{◌≡◌, ◌/◌, ◌%◌, true, [], ◌∷◌, length, take, slice_index};
-ghost use Rattle.isa.specs.Codes.{code_in, operand_bytes, in_range, encoding, decoded};
+ghost use Rattle.std.specs.Prelude.{◌≡◌, ◌/◌, ◌%◌, true, [], ◌∷◌, slice_index};
+ghost use Rattle.isa.specs.Instructions.{letter_of};
+ghost use Rattle.isa.specs.Codes.{encoded, padded, in_range, encoding, decoded};
 ghost use Rattle.isa.specs.Laws.{Encodes, Decodes};
 
 use crate::instruction::{Action, Instruction};
 use crate::refusal::Refusal;
 use crate::table::{Mismatch, look_up, shape_of};
-use arrayvec::ArrayVec;
 
 /// The byte that ends a stretch, and that stands wherever no instruction does. No letter has this code.
 pub const MARK: u8 = 255;
 
+// Stays: an array and a count; an `ArrayVec` is not `Copy`, and a code is, with 0 behind its bytes.
+/// The bytes of an instruction: the first `len` of `bytes`, and 0 after them.
+#[derive(Clone, Copy, Debug, PartialEq, Eq)]
+pub struct Code {
+    pub bytes: [u8; 4],
+    pub len: usize,
+}
+
 /// The bytes of an instruction; refused with `Range` if an operand is outside its range.
-pub fn encode(instruction: Instruction<u16>) -> Result<ArrayVec<u8, 4>, Refusal>
-    ensures value { code_in result ≡ encoding instruction }
+pub fn encode(instruction: Instruction<u16>) -> Result<Code, Refusal>
+    ensures value { result ≡ encoding instruction }
     ensures law { Encodes instruction result }
 {
     let letter = instruction.letter();
     let entry = look_up(char::from(letter), instruction.operands()).map_err(|_| Refusal::Range)?;
     let [first, second, third] = operand_bytes(instruction);
-    let mut code = ArrayVec::from([letter, first, second, third]);
-    code.truncate(entry.shape.width());
-    Ok(code)
+    Ok(Code {
+        bytes: [letter, first, second, third],
+        len: entry.shape.width(),
+    })
 }
 
 /// The instruction in front of four bytes; refused with `Code` if the first is no letter, with `Range` if an operand
@@ -51,7 +60,7 @@ fn decode_parts(letter: u8, low: u8, middle: u8, high: u8) -> Result<Instruction
 /// The bytes after the letter of an instruction whose operands are in range, and 0 after them.
 fn operand_bytes(instruction: Instruction<u16>) -> [u8; 3]
     requires { in_range instruction ≡ true }
-    ensures { take (length (operand_bytes instruction)) result ≡ operand_bytes instruction }
+    ensures { letter_of instruction ∷ result ≡ padded (encoded instruction) }
 {
     match instruction {
         Instruction::Go(target) => word(target, 0),

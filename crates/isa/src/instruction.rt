@@ -49,8 +49,8 @@ pub enum Instruction<T> {
 }
 
 impl<T: Copy> Instruction<T> {
-    /// The ASCII code of the command letter, the first byte of the instruction.
-    pub fn letter(self) -> u8
+    /// The ASCII code of the command letter, whatever the target is.
+    pub fn command_letter(self) -> u8
         ensures { result ≡ letter_of self }
     {
         match self {
@@ -79,8 +79,8 @@ impl<T: Copy> Instruction<T> {
         }
     }
 
-    /// Where the instruction may go on to, besides the one after it.
-    pub fn target(self) -> Option<T>
+    /// The target, of whatever kind it is.
+    pub fn own_target(self) -> Option<T>
         ensures { result ≡ target_of self }
     {
         match self {
@@ -105,6 +105,20 @@ impl<T: Copy> Instruction<T> {
 }
 
 impl Instruction<u16> {
+    /// The ASCII code of the command letter, the first byte of the instruction.
+    pub fn letter(self) -> u8
+        ensures { result ≡ letter_of self }
+    {
+        self.command_letter()
+    }
+
+    /// Where the instruction may go on to, besides the one after it.
+    pub fn target(self) -> Option<u16>
+        ensures { result ≡ target_of self }
+    {
+        self.own_target()
+    }
+
     /// The operands as numbers; 0 stands for one that the letter does not have.
     pub fn operands(self) -> Operands
         ensures { result ≡ operands_of self }

@@ -13,7 +13,7 @@ mod shape;
 mod table;
 mod words;
 
-pub use codec::{MARK, decode, encode};
+pub use codec::{Code, MARK, decode, encode};
 pub use instruction::{Action, Direction, Instruction};
 pub use place::{IMAGE_SIZE, PAGE_SIZE, is_user_place, page_of};
 pub use refusal::Refusal;

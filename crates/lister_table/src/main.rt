@@ -89,7 +89,8 @@ fn put(image: &mut [u8], place: usize, times: u16, bytes: &str) -> anyhow::Resul
     let mut places = image.iter_mut().skip(place);
     for _ in 0..times {
         for b in bytes.split_whitespace() {
-            *places.next().context("a byte past the image's end")? = b.parse::<u8>()?;
+            let place = places.next().context("a byte past the image's end")?;
+            *place = b.parse::<u8>()?;
         }
     }
     Ok(())
@@ -99,7 +100,7 @@ fn show(rt: &HostRuntime, case: &Case) -> anyhow::Result<()> {
     let mut out = vec![in rt.alloc(); UNTOUCHED; case.room]?;
     let written = match list(case.image.as_slice(), out.as_mut_slice()) {
         Ok(len) => {
-            comes_back(rt.alloc(), &out.as_slice()[0..len], case.image.as_slice())?;
+            comes_back(&out.as_slice()[0..len], case.image.as_slice())?;
             len
         }
         Err(fault) => {
@@ -117,8 +118,8 @@ fn show(rt: &HostRuntime, case: &Case) -> anyhow::Result<()> {
 }
 
 /// The listing is a text that is translated into the same image.
-fn comes_back(heap: Global, listing: &[u8], image: &[u8]) -> anyhow::Result<()> {
-    let again = translation_of(heap, listing)?.context("the listing is refused as a text")?;
+fn comes_back(listing: &[u8], image: &[u8]) -> anyhow::Result<()> {
+    let again = translation_of(listing).context("the listing is refused as a text")?;
     ensure!(
         again.image.as_slice() == image,
         "the listing has another image"

@@ -11,5 +11,5 @@ listing_in (Ok v) = Ok v.items
 listing_in (Err f) = Err f
 
 abbrev pub translation_in : Result Translation TextFault → Result definition.Translation TextFault
-translation_in (Ok t) = Ok (record { image = t.image.items; labels = t.labels.items; count = t.lines })
+translation_in (Ok t) = Ok (record { image = t.image; labels = t.labels.items; count = t.lines })
 translation_in (Err f) = Err f

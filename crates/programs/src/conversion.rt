@@ -5,6 +5,7 @@ ghost use Rattle.sequence.specs.Listings.{listing_room, listed};
 ghost use Rattle.sequence.specs.Translations.{translation};
 ghost use Rattle.programs.specs.Conversions.{listing_in, translation_in};
 
+use arrayvec::ArrayVec;
 use isa::IMAGE_SIZE;
 use lister::{LISTING_ROOM, list};
 use sequence::{ImageFault, Label, TextFault};
@@ -26,27 +27,23 @@ pub fn listing_of(heap: Global, image: &[u8]) -> Result<Result<Vec<u8>, ImageFau
 /// An accepted text: its image, its labels in text order, and how many instruction lines it has.
 #[derive(Debug, Drop)]
 pub struct Translation {
-    pub image: Vec<u8>,
-    pub labels: Vec<Label>,
+    pub image: [u8; IMAGE_SIZE],
+    pub labels: ArrayVec<Label, MOST_LABELS>,
     pub lines: usize,
 }
 
-/// The translation of a text, or why there is none.
-pub fn translation_of(
-    heap: Global,
-    text: &[u8],
-) -> Result<Result<Translation, TextFault>, AllocError>
-    ensures { IfOk result (λ answer. translation_in answer ≡ translation text.now) }
+/// The translation of a text, or why there is none. It needs no heap.
+pub fn translation_of(text: &[u8]) -> Result<Translation, TextFault>
+    ensures { translation_in result ≡ translation text.now }
 {
-    let mut image = vec![in heap; 0u8; IMAGE_SIZE]?;
-    let mut labels = vec![in heap; Label::default(); MOST_LABELS]?;
-    let answer = translate(text, image.as_mut_slice(), labels.as_mut_slice());
-    Ok(answer.map(|counts| {
-        labels.truncate(counts.labels);
-        Translation {
-            image,
-            labels,
-            lines: counts.lines,
-        }
-    }))
+    let mut image = [0; IMAGE_SIZE];
+    let mut table = [Label::default(); MOST_LABELS];
+    let counts = translate(text, &mut image, &mut table)?;
+    let mut labels = ArrayVec::from(table);
+    labels.truncate(counts.labels);
+    Ok(Translation {
+        image,
+        labels,
+        lines: counts.lines,
+    })
 }

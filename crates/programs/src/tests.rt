@@ -8,7 +8,7 @@ use std::test::Fail;
 #[test]
 fn a_text_goes_round(rt: HostRuntime) -> Result<(), Fail> {
     let text = "at 0\nback: Z\nJ back 2\n";
-    let translation = translation_of(rt.alloc(), text.as_bytes())??;
+    let translation = translation_of(text.as_bytes())?;
     assert_eq!(rt; translation.image.len(), IMAGE_SIZE);
     assert_eq!(rt; translation.labels.len(), 1);
     assert_eq!(rt; translation.lines, 2);

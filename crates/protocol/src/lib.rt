@@ -2,6 +2,7 @@
 
 #![tactic(auto)]
 
+mod gathered;
 mod reading;
 mod receiver;
 

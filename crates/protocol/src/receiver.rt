@@ -5,17 +5,14 @@ ghost use Rattle.machine.specs.Receivers.{deaf, awaiting, echoed, hears_plain};
 ghost use Rattle.machine.specs.Messages.{message_in};
 ghost use Rattle.protocol.specs.Fits.{Fits};
 
+use crate::gathered::Gathered;
 use crate::reading::read_message;
-use arrayvec::ArrayVec;
 use isa::Refusal;
 use machine::{Answer, Message};
 use std::marker::Model;
 use std::mem;
 
-/// The bytes that a message has at most, its name not counted.
-const LONGEST: usize = 12;
-
-#[derive(Clone, Debug, Default, Drop)]
+#[derive(Clone, Copy, Debug, Default)]
 enum Heard {
     /// No line feed yet, or a message to another, or one that was cut off.
     #[default]
@@ -23,24 +20,28 @@ enum Heard {
     /// A line feed: the next byte is the name.
     Awaiting,
     /// The bytes of a message to this axis.
-    Gathering(ArrayVec<u8, LONGEST>),
+    Gathering(Gathered),
     /// More of them than a message has.
     Overlong,
 }
 
 /// What an axis has heard since the last line feed.
-#[derive(Clone, Debug, Default, Drop)]
+#[derive(Clone, Copy, Debug, Default)]
 pub struct Receiver {
     heard: Heard,
 }
 
 impl Model for Receiver {
     ghost use Rattle.machine.specs.Receivers.{Receiver as State};
-    ghost use Rattle.protocol.specs.Heard.{heard_of};
+    ghost use Rattle.protocol.specs.Heard.{heard_of, heard_from, heard_again};
 
     ghost Value = { State };
 
     ghost view = { λ r. heard_of r.heard };
+
+    ghost inverse = { λ s. record { heard = heard_from s } };
+
+    ghost inverse_ok = { λ r h i. record { heard = heard_again r.heard i } };
 }
 
 impl Receiver {
@@ -58,12 +59,12 @@ impl Receiver {
     {
         let (heard, answer) = match mem::take(&mut self.heard) {
             Heard::Awaiting if byte == name => (
-                Heard::Gathering(ArrayVec::new()),
+                Heard::Gathering(Gathered::new()),
                 Answer::Echo(byte),
             ),
-            Heard::Gathering(mut line) => match line.try_push(byte) {
-                Ok(()) => (Heard::Gathering(line), Answer::Echo(byte)),
-                Err(_) => (Heard::Overlong, Answer::Silence),
+            Heard::Gathering(line) => match line.with(byte) {
+                Some(line) => (Heard::Gathering(line), Answer::Echo(byte)),
+                None => (Heard::Overlong, Answer::Silence),
             },
             Heard::Overlong => (Heard::Overlong, Answer::Silence),
             Heard::Deaf | Heard::Awaiting => (Heard::Deaf, Answer::Silence),
@@ -87,7 +88,7 @@ impl Receiver {
     {
         match mem::replace(&mut self.heard, Heard::Awaiting) {
             Heard::Deaf | Heard::Awaiting => None,
-            Heard::Gathering(line) => Some(read_message(&line)),
+            Heard::Gathering(line) => Some(read_message(line.as_slice())),
             Heard::Overlong => Some(Err(Refusal::Long)),
         }
     }

@@ -28,7 +28,11 @@ fn run(rt: &HostRuntime) -> anyhow::Result<()> {
     match listing_of(rt.alloc(), image.as_slice())? {
         Ok(listing) => program.write(listing.as_slice()),
         Err(fault) => {
-            eprintln!(rt; "seqlist: place {}: {}", fault.place, fault.refusal)?;
+            eprintln!(rt;
+                "seqlist: place {}: {}",
+                fault.place,
+                fault.refusal.sentence()
+            )?;
             Err(program.answer(fault)?)
         }
     }

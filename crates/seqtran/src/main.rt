@@ -34,11 +34,11 @@ fn run(rt: &HostRuntime) -> anyhow::Result<()> {
     // One byte more than a text may have tells one that is too long.
     // Stays: a cast; a `usize` has no `u64::from`.
     let text = program.read(rt.stdin(), MOST_BYTES as u64 + 1, unreadable)?;
-    match translation_of(rt.alloc(), text.as_slice())? {
+    match translation_of(text.as_slice()) {
         Ok(translation) => {
-            program.write(translation.image.as_slice())?;
+            program.write(&translation.image)?;
             if with_labels {
-                print_labels(rt, translation.labels.as_slice())?;
+                print_labels(rt, &translation.labels)?;
             }
             Ok(())
         }
@@ -72,14 +72,15 @@ fn explain(rt: &HostRuntime, text: &[u8], fault: TextFault) -> anyhow::Result<()
         line,
         column,
     } = fault;
+    let why = refusal.sentence();
     if line == 0 {
-        eprintln!(rt; "seqtran: {refusal}")?;
+        eprintln!(rt; "seqtran: {why}")?;
         return Ok(());
     }
     if column == 0 {
-        eprintln!(rt; "seqtran: line {line}: {refusal}")?;
+        eprintln!(rt; "seqtran: line {line}: {why}")?;
     } else {
-        eprintln!(rt; "seqtran: line {line}, column {column}: {refusal}")?;
+        eprintln!(rt; "seqtran: line {line}, column {column}: {why}")?;
     }
     let shown = line_shown(rt.alloc(), text, line - 1)?;
     eprintln!(rt; "{shown}")?;

@@ -29,11 +29,14 @@ front_is : (s : List ℕ) → front s ≡ take_while (λ b. not (b == 10)) s
 front_is [] = refl
 front_is (b ∷ bs) = grind (arith, front_is bs, take_while-cons (λ x. not (x == 10)) b bs)
 
+pub front_size : (s : List ℕ) → position_or_len (λ b. b == 10) s ≡ length (front s)
+front_size s = sym (ap length (front_is s) ∙ length-prefix_len (λ b. not (b == 10)) s)
+
 -- the line in front goes up to its line feed, and the others follow
 pub cut_line : (s : List ℕ) (n : ℕ) → 0 < length s → n ≡ position_or_len (λ b. b == 10) s → lines s ≡ take n s ∷ lines (drop (n + 1) s)
 cut_line s n some e =
     let f : front s ≡ take n s = front_is s ∙ ap (λ k. take k s) (sym e) in
-    let d : suc (length (front s)) ≡ n + 1 = omega (arith, ap length (front_is s) ∙ length-prefix_len (λ b. not (b == 10)) s, e) in
+    let d : suc (length (front s)) ≡ n + 1 = omega (arith, front_size s, e) in
     first_line s some ∙ (λ i. f i ∷ lines (drop (d i) s))
 
 pub after_feed : (s : List ℕ) (n : ℕ) (r : Option (Bor (List ℕ))) (none : Bor (List ℕ)) → none.now ≡ [] → IsGetRangeResult s n (length s) r → (unwrap_or r none).now ≡ drop n s
@@ -46,5 +49,5 @@ lines_few fresh [] = omega arith
 lines_few true (b ∷ bs) = let few = lines_few (eqb b 10) bs in omega (arith, few)
 lines_few false (b ∷ bs) = let few = lines_few (eqb b 10) bs in omega (arith, few)
 
-pub length-lines-le : (s : List ℕ) → length (lines s) ≤ length s
-length-lines-le s = lines_few true s
+pub few_lines : (s : List ℕ) → length (lines s) ≤ length s
+few_lines s = lines_few true s

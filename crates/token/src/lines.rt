@@ -2,10 +2,18 @@
 
 ghost use Rattle.std.specs.Prelude.{◌≡◌, ◌≤◌, length};
 ghost use Rattle.std.specs.Iterator.{YieldsFirstRef, item_count};
-ghost use Rattle.sequence.specs.Texts.{lines};
+ghost use Rattle.sequence.specs.Texts.{front, lines};
 
 use crate::scanner::front_len;
 use std::marker::Model;
+
+/// How many bytes the line in front has: those before the next line feed, or before the end.
+pub fn line_len(text: &[u8]) -> usize
+    ensures within { result ≤ length text.now }
+    ensures size { result ≡ length (front text.now) }
+{
+    front_len(text, |b| b != b'\n')
+}
 
 /// The lines of a text that are still to come, each without its line feed.
 #[derive(Clone, Debug, Drop)]
@@ -24,6 +32,7 @@ impl<'a> Model for Lines<'a> {
 
 impl<'a> Lines<'a> {
     /// All lines of a text.
+    #[tactic(auto, using(crate::proofs::Cuts::few_lines))]
     pub fn new(text: &'a [u8]) -> Lines<'a>
         ensures lines { result ≡ lines text.now }
         ensures few { length result ≤ length text.now }
@@ -43,7 +52,7 @@ impl<'a> Iterator for Lines<'a> {
         if self.rest.is_empty() {
             return None;
         }
-        let n = front_len(self.rest, |b| b != b'\n');
+        let n = line_len(self.rest);
         let line = &self.rest[..n];
         self.rest = self.rest.get(n + 1..).unwrap_or(&[]);
         Some(line)

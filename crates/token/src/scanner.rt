@@ -1,12 +1,9 @@
 //! The tokens of a line, one by one.
 
-ghost use Rattle.std.specs.Prelude.{◌≡◌, ◌≤◌, ℕ, Bool, true, length};
+ghost use Rattle.std.specs.Prelude.{◌≡◌, ◌+◌, ◌^◌, ◌<◌, ◌≤◌, ℕ, Bool, true, length};
 ghost use Rattle.std.specs.List.{prefix_len};
 ghost use Rattle.std.specs.Iterator.{YieldsFirstBy, item_count};
 ghost use Rattle.sequence.specs.Texts.{gap, tokens};
-ghost use Rattle.token.specs.Spots.{left, token_of, Gives};
-
-use std::marker::Model;
 
 /// A token and where it begins; line and column count from 1.
 #[derive(Clone, Copy, Debug, PartialEq, Eq)]
@@ -17,27 +14,19 @@ pub struct Spot<'a> {
 }
 
 /// The tokens of a line that are still to come, and the number of the line.
-#[derive(Clone, Debug, Drop)]
+#[derive(Clone, Copy, Debug)]
 pub struct Scanner<'a> {
     line: usize,
     column: usize,
     rest: &'a [u8],
-}
-
-impl<'a> Model for Scanner<'a> {
-    ghost use Rattle.std.specs.Prelude.{◌+◌, ◌^◌, ◌<◌, true, length};
-    ghost use Rattle.sequence.specs.Texts.{tokens};
-    ghost use Rattle.token.specs.Rests.{Rest};
-
-    ghost Value = { Rest };
-
-    ghost view = { λ s. record { line = s.line; tokens = tokens s.column true s.rest.now } };
-
-    ghost invariant = { λ s. s.column + length s.rest.now < 2 ^ 64 };
+    ghost fits: { column + length rest.now < 2 ^ 64 },
 }
 
 impl<'a> Scanner<'a> {
+    ghost use Rattle.token.specs.Spots.{left};
+
     /// At the beginning of a line.
+    #[tactic(auto, using(crate::proofs::Fronts::few_tokens))]
     pub fn new(line: usize, text: &'a [u8]) -> Scanner<'a>
         ensures number { result.line ≡ line }
         ensures tokens { left result ≡ tokens 1 true text.now }
@@ -52,6 +41,8 @@ impl<'a> Scanner<'a> {
 }
 
 impl<'a> Iterator for Scanner<'a> {
+    ghost use Rattle.token.specs.Spots.{left, token_of, Gives};
+
     type Item = Spot<'a>;
 
     ghost next_gives = { YieldsFirstBy token_of left };
@@ -61,6 +52,9 @@ impl<'a> Iterator for Scanner<'a> {
     fn next(&mut self) -> Option<Spot<'a>>
         ensures { Gives result self.old self.new }
     {
+        if self.rest.is_empty() {
+            return None;
+        }
         let (gaps, from) = self.rest.split_at(front_len(self.rest, is_gap));
         let (text, rest) = from.split_at(front_len(from, |b| !is_gap(b)));
         let column = self.column + gaps.len();

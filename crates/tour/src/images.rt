@@ -57,7 +57,7 @@ fn show_refusal(rt: &HostRuntime, image: &[u8]) -> anyhow::Result<()> {
         "refused with {} at place {}: {}",
         fault.refusal.number(),
         fault.place,
-        fault.refusal
+        fault.refusal.sentence()
     )?;
     Ok(())
 }

@@ -11,19 +11,19 @@ const SEQUENCE: &str = "at 0\nO 0\nback: R 1200\nW 0\nR -1200\nW 43\nJ back 2\n"
 pub fn show_translation(rt: &HostRuntime) -> anyhow::Result<Vec<u8>> {
     println!(rt; "A sequence as a person writes it:")?;
     print!(rt; "{SEQUENCE}")?;
-    let answer = translation_of(rt.alloc(), SEQUENCE.as_bytes())?;
+    let answer = translation_of(SEQUENCE.as_bytes());
     let Translation { image, labels, .. } = answer.context("the sequence is refused")?;
     println!(rt; "\nIts label:")?;
-    for label in &labels {
+    for label in labels.as_slice() {
         println!(rt; "{label}")?;
     }
-    Ok(image)
+    Ok(image.to_vec(rt.alloc())?)
 }
 
 /// Whether the listing yields the image again.
 pub fn show_way_back(rt: &HostRuntime, image: &[u8], listing: &str) -> anyhow::Result<()> {
     println!(rt; "\nThe listing translated:")?;
-    match translation_of(rt.alloc(), listing.as_bytes())? {
+    match translation_of(listing.as_bytes()) {
         Ok(again) => {
             let answer = if again.image.as_slice() == image {
                 "the same image"
@@ -48,7 +48,7 @@ pub fn show_stale(rt: &HostRuntime, listing: &str) -> anyhow::Result<()> {
     )?;
     rt.print(altered.as_str())?;
     println!(rt)?;
-    let Err(fault) = translation_of(rt.alloc(), altered.as_bytes())? else {
+    let Err(fault) = translation_of(altered.as_bytes()) else {
         bail!("the altered listing is accepted");
     };
     show_fault(rt, altered.as_str(), fault)
@@ -61,8 +61,9 @@ fn show_fault(rt: &HostRuntime, text: &str, fault: TextFault) -> anyhow::Result<
         column,
     } = fault;
     println!(rt;
-        "refused with {} at line {line}, column {column}: {refusal}",
-        refusal.number()
+        "refused with {} at line {line}, column {column}: {}",
+        refusal.number(),
+        refusal.sentence()
     )?;
     if let Some(shown) = text.lines().nth(line.saturating_sub(1)) {
         println!(rt; "    {shown}")?;

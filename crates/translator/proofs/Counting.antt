@@ -5,7 +5,7 @@ use Rattle.std.proofs.lemmas.List.Recursion.{is_sum_by}
 use Rattle.std.proofs.lemmas.List.Sums.{length-filter, count_by-le-length}
 use Rattle.sequence.specs.Texts.{Token, front, lines_from, lines, tokens, is_label}
 use Rattle.sequence.specs.Translations.{label_tokens, labels_in}
-use Rattle.token.proofs.Fronts.{length-tokens-le}
+use Rattle.token.proofs.Fronts.{few_tokens}
 
 abbrev labels : Token → Bool
 labels t = is_label t.bytes
@@ -20,7 +20,7 @@ abbrev pub labels_of_line : List ℕ → ℕ
 labels_of_line b = label_tokens (tokens 1 true b)
 
 few_labels : (b : List ℕ) → labels_of_line b ≤ length b
-few_labels b = let ts = tokens 1 true b in omega (arith, labels_counted ts, count_by-le-length labels ts, length-tokens-le 1 true b)
+few_labels b = let ts = tokens 1 true b in omega (arith, labels_counted ts, count_by-le-length labels ts, few_tokens 1 b)
 
 pub labels_are : (bs : List (List ℕ)) → labels_in bs ≡ sum_by labels_of_line bs
 labels_are bs = is_sum_by labels_in labels_of_line refl (λ _ _. refl) bs

@@ -197,5 +197,5 @@ pub(crate) fn width_of(instruction: Instruction<Target>) -> usize
     ensures some { 1 ≤ result }
     ensures four { result ≤ 4 }
 {
-    shape_of(char::from(instruction.letter())).map_or(1, |shape| shape.width())
+    shape_of(char::from(instruction.command_letter())).map_or(1, |shape| shape.width())
 }

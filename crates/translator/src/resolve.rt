@@ -10,7 +10,7 @@ ghost use Rattle.sequence.specs.Translations.{painted, after};
 ghost use Rattle.translator.specs.Plans.{plan_of, Fits, Paints};
 
 use crate::plan::Plan;
-use isa::{IMAGE_SIZE, Instruction, Refusal, encode};
+use isa::{Code, IMAGE_SIZE, Instruction, Refusal, encode};
 use sequence::{Kind, Line, Source, Target, TextFault};
 
 impl Plan<'_> {
@@ -48,7 +48,7 @@ impl Plan<'_> {
     fn resolve(&self, source: Source) -> Result<Instruction<u16>, TextFault>
         ensures { result ≡ resolve_line (plan_of self.now) source }
     {
-        let place = match source.instruction.target() {
+        let place = match source.instruction.own_target() {
             Some(target) => self.target_place(source, target)?,
             None => 0,
         };
@@ -91,8 +91,8 @@ fn put(
     ensures place { result ≡ (if in_range instruction then Ok (place + width instruction) else Err Range) }
     ensures image { OnOk result (image.new ≡ sets image.old place (encoded instruction)) }
 {
-    let code = encode(instruction)?;
-    let end = place + code.len();
-    image[place..end].copy_from_slice(&code);
+    let Code { bytes, len } = encode(instruction)?;
+    let end = place + len;
+    image[place..end].copy_from_slice(&bytes[..len]);
     Ok(end)
 }

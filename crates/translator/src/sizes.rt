@@ -1,6 +1,6 @@
 //! How large a text is.
 
-ghost use Rattle.std.specs.Prelude.{◌≡◌, true};
+ghost use Rattle.std.specs.Prelude.{◌≡◌, true, length};
 ghost use Rattle.sequence.specs.Texts.{lines, tokens};
 ghost use Rattle.sequence.specs.Translations.{sized_text, labels_in, label_tokens};
 
@@ -19,16 +19,25 @@ pub const MOST_LABELS: usize = 64;
 pub(crate) fn is_sized(text: &[u8]) -> bool
     ensures { result ≡ sized_text text.now }
 {
-    text.len() <= MOST_BYTES
-        && Lines::new(text).count() <= MOST_LINES
-        && count_labels(text) <= MOST_LABELS
+    if text.len() > MOST_BYTES {
+        return false;
+    }
+    let (count, labels) = count(text);
+    count <= MOST_LINES && labels <= MOST_LABELS
 }
 
-/// How many tokens of a text have the shape of a label.
-fn count_labels(text: &[u8]) -> usize
-    ensures { result ≡ labels_in (lines text.now) }
+/// How many lines a text has, and how many of its tokens have the shape of a label, by one walk over it.
+fn count(text: &[u8]) -> (usize, usize)
+    ensures lines { result.0 ≡ length (lines text.now) }
+    ensures labels { result.1 ≡ labels_in (lines text.now) }
 {
-    Lines::new(text).map(count_in_line).sum()
+    let mut count = 0;
+    let mut labels = 0;
+    for line in Lines::new(text) {
+        count += 1;
+        labels += count_in_line(line);
+    }
+    (count, labels)
 }
 
 fn count_in_line(line: &[u8]) -> usize

@@ -245,7 +245,7 @@ fn show_rows(rt: &HostRuntime, image: &[u8]) -> anyhow::Result<()> {
 /// Lists an image, translates the listing and lists that image: both images and both listings are the same.
 fn go_round(heap: Global, image: &[u8]) -> anyhow::Result<()> {
     let listing = listing_of(heap, image)?.context("an image of the translator is not listed")?;
-    let again = translation_of(heap, listing.as_slice())?.context("a listing is not translated")?;
+    let again = translation_of(listing.as_slice()).context("a listing is not translated")?;
     ensure!(
         again.image.as_slice() == image,
         "the listing has another image"

@@ -74,7 +74,7 @@ module _ (k n w : ℕ) (line skipped from text after : List ℕ) (gaps : n ≡ p
       let e : from ≡ [] = no_front from (ap length word_text ∙ none) stops in
       (same ∙ ap (tokens (k + length skipped) true) e, ap (tokens (k + length skipped + length text) true) (rest ∙ (λ i. drop ((sym size ∙ none) i) (e i))))
 
-length-tokens-le : (k : ℕ) (fresh : Bool) (s : List ℕ) → length (tokens k fresh s) ≤ length s
+pub length-tokens-le : (k : ℕ) (fresh : Bool) (s : List ℕ) → length (tokens k fresh s) ≤ length s
 length-tokens-le k fresh [] = omega arith
 length-tokens-le k fresh (b ∷ bs) = go fresh (gap b) (length-tokens-le (k + 1) true bs) (length-tokens-le (k + 1) false bs)
   where
